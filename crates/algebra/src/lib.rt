@@ -1,0 +1,1 @@
+// Integer algebra, in specs/ alone: this crate has no code.
