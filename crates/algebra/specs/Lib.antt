@@ -1,3 +1,5 @@
 pub mod Ring
 pub mod Solver
+pub mod Difference
+pub mod Size
 pub mod Table

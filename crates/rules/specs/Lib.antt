@@ -5,4 +5,10 @@ pub mod Level
 pub mod Refinement
 pub mod Fit
 pub mod Calls
+pub mod Bytes
+pub mod LatticeFile
+pub mod PointFile
+pub mod Program
 pub mod Answers
+pub mod Examples
+pub mod Laws

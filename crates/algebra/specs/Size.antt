@@ -1,0 +1,66 @@
+-- Size and order of whole numbers: what error bounds and the rounding laws use. natAbs (pos n) computes to n and needs no law.
+use mathlib.Core.Path.{_≡_, refl}
+use mathlib.Core.Logic.{_↔_, _⊎_, inl, inr}
+use mathlib.Core.Bool.{Bool, true, false, not}
+use Prim.Native.Nat.{ℕ, zero, suc, _+_, _*_, _≤_, _<_}
+use native.Mathlib.Nat.{mul-le-mul-left, lt-of-mul-lt-mul-left}
+use native.Mathlib.Omega.{arith}
+use lib.IntN.{ℤ, pos, negsuc, negℤ, natAbs, _+ℤ_, _-ℤ_, _*ℤ_}
+use lib.Dec.{T}
+use lib.Signed.{ltZ, _≤ℤ_, _<ℤ_, ltZ-yes, ltZ-no}
+use Rattle.algebra.specs.Difference.{split, whole}
+
+-- ---- size
+
+pub natAbs-sum : (a b : ℤ) → natAbs (a +ℤ b) ≤ natAbs a + natAbs b
+natAbs-sum a b = rw (split a, split b) (simp whole (omega arith))
+
+pub natAbs-neg : (a : ℤ) → natAbs (negℤ a) ≡ natAbs a
+natAbs-neg (pos zero) = refl
+natAbs-neg (pos (suc n)) = refl
+natAbs-neg (negsuc n) = refl
+
+pub natAbs-product : (a b : ℤ) → natAbs (a *ℤ b) ≡ natAbs a * natAbs b
+natAbs-product (pos a) (pos b) = refl
+natAbs-product (pos a) (negsuc b) = natAbs-neg (pos (a * suc b))
+natAbs-product (negsuc a) (pos b) = natAbs-neg (pos (suc a * b))
+natAbs-product (negsuc a) (negsuc b) = refl
+
+pub same-of-natAbs : (a b : ℤ) → natAbs (a -ℤ b) ≡ 0 → a ≡ b
+same-of-natAbs a b = rw (split a, split b) (simp whole (omega arith))
+
+-- a bound on the size is a bound on both sides
+pub natAbs-range : (z : ℤ) (B : ℕ) → (natAbs z ≤ B) ↔ ((negℤ (pos B) ≤ℤ z) × (z ≤ℤ pos B))
+natAbs-range z B = rw (split z) (simp whole (omega arith))
+
+-- ---- order
+
+pub ≤ℤ-trans : {a b c : ℤ} → a ≤ℤ b → b ≤ℤ c → a ≤ℤ c
+≤ℤ-trans {a} {b} {c} = rw (split a, split b, split c) (simp whole (omega arith))
+
+pub ≤ℤ-<ℤ-trans : {a b c : ℤ} → a ≤ℤ b → b <ℤ c → a <ℤ c
+≤ℤ-<ℤ-trans {a} {b} {c} = rw (split a, split b, split c) (simp whole (omega arith))
+
+pub ≤ℤ-antisym : {a b : ℤ} → a ≤ℤ b → b ≤ℤ a → a ≡ b
+≤ℤ-antisym {a} {b} = rw (split a, split b) (simp whole (omega arith))
+
+pub <ℤ-suc : (a b : ℤ) → (a <ℤ (b +ℤ pos 1)) ↔ (a ≤ℤ b)
+<ℤ-suc a b = rw (split a, split b) (simp whole (omega arith))
+
+pub ≤ℤ-or-<ℤ : (a b : ℤ) → (a ≤ℤ b) ⊎ (b <ℤ a)
+≤ℤ-or-<ℤ a b = go (ltZ b a) ltZ-yes ltZ-no
+  where
+    go : (t : Bool) → (T t → b <ℤ a) → (T (not t) → a ≤ℤ b) → (a ≤ℤ b) ⊎ (b <ℤ a)
+    go true f g = inr (f tt)
+    go false f g = inl (g tt)
+
+pub ≡-or-<ℤ : {a b : ℤ} → a ≤ℤ b → (a ≡ b) ⊎ (a <ℤ b)
+≡-or-<ℤ {a} {b} h = elim (≤ℤ-or-<ℤ b a) [ inl k ↦ inl (≤ℤ-antisym h k) | inr k ↦ inr k ]
+
+-- ---- multiplication by a natural number
+
+pub ≤ℤ-scale : (d : ℕ) {a b : ℤ} → a ≤ℤ b → (pos d *ℤ a) ≤ℤ (pos d *ℤ b)
+≤ℤ-scale d {a} {b} = rw (split a, split b) (simp whole (λ h. omega (arith, mul-le-mul-left d h)))
+
+pub <ℤ-cancel : (d : ℕ) (a b : ℤ) → (pos d *ℤ a) <ℤ (pos d *ℤ b) → a <ℤ b
+<ℤ-cancel d a b = rw (split a, split b) (simp whole (λ h. lt-of-mul-lt-mul-left d (omega arith)))

@@ -1,0 +1,77 @@
+-- "Table of checked examples" of document 01: E1 to E8 and the three near examples, as one computed table.
+use Prim.Native.Nat.{ℕ, zero, suc, _+_, _-_, _*_, _/_, _%_}
+use mathlib.Core.Bool.{Bool, true, false, _&&_, cond}
+use mathlib.Core.List.{List, [], _∷_}
+use lib.Dec.{T, eqb}
+use lib.IntN.{ℤ, pos, negsuc, negℤ, _-ℤ_}
+use Rattle.rules.specs.Rounding.{floor, near}
+use Rattle.rules.specs.Grid.{Lattice}
+use Rattle.rules.specs.Surface.{square, cube, numerator, denominator, cell, offset, along, height}
+use Rattle.rules.specs.Refinement.{masked, finer, finer2, refined}
+
+-- "one control value set, others 0": v in column s and row t, which are the indices (s - 1, t - 1)
+unfoldable pub single : ℕ → ℕ → ℤ → Lattice
+single s t v q r = cond (eqb q s && eqb r t) v (pos 0)
+
+unfoldable pub equal : ℤ → ℤ → Bool
+equal (pos a) (pos b) = eqb a b
+equal (pos a) (negsuc b) = false
+equal (negsuc a) (pos b) = false
+equal (negsuc a) (negsuc b) = eqb a b
+
+-- a line of the table: a value of the rules, and what document 01 says that it is
+pub record Line : Type 0 where
+  pub found : ℤ
+  pub said : ℤ
+
+infix 4 _is_
+unfoldable pub _is_ : ℤ → ℤ → Line
+a is b = record { found = a; said = b }
+
+unfoldable pub allHold : List Line → Bool
+allHold [] = true
+allHold (l ∷ ls) = equal (l .found) (l .said) && allHold ls
+
+-- "Lattice 1 by 1, U = 16": the height at (x, y)
+unfoldable pub heightOf : Lattice → ℕ → ℕ → ℤ
+heightOf f x y = height 16 1 1 f x y
+
+-- the refinement at document 01's indices (i, j), neither of which is -1 here
+unfoldable pub refinedAt : Lattice → ℕ → ℕ → ℤ
+refinedAt f i j = refined f (i + 1) (j + 1)
+
+-- how many of the 5 × 5 refined control values differ from 0
+unfoldable pub nonzero : Lattice → ℕ → ℕ
+nonzero f zero = 0
+nonzero f (suc q) = nonzero f q + cond (equal (refined f (q % 5) (q / 5)) (pos 0)) 0 1
+
+unfoldable pub table : List Line
+table =
+    -- near(7/2) = 4, near(-7/2) = -3, near(-5/3) = -2
+    (near (pos 7) 2 is pos 4)
+    ∷ (near (negℤ (pos 7)) 2 is negℤ (pos 3))
+    ∷ (near (negℤ (pos 5)) 3 is negℤ (pos 2))
+    -- E1 (0,0)=36: height at (0,0) is 16. E2 same, at (16,16): 1. E3 same, at (8,8): 8
+    ∷ (heightOf (single 1 1 (pos 36)) 0 0 is pos 16)
+    ∷ (heightOf (single 1 1 (pos 36)) 16 16 is pos 1)
+    ∷ (heightOf (single 1 1 (pos 36)) 8 8 is pos 8)
+    -- E4 (-1,0)=3, at (0,0): 1. E5 (-1,0)=-3: 0
+    ∷ (heightOf (single 0 1 (pos 3)) 0 0 is pos 1)
+    ∷ (heightOf (single 0 1 (negℤ (pos 3))) 0 0 is pos 0)
+    -- E6 refine (0,0)=64: new (0,0) 36, (1,0) 24, (1,1) 16, (2,2) 1, (3,3) 0
+    ∷ (refinedAt (single 1 1 (pos 64)) 0 0 is pos 36)
+    ∷ (refinedAt (single 1 1 (pos 64)) 1 0 is pos 24)
+    ∷ (refinedAt (single 1 1 (pos 64)) 1 1 is pos 16)
+    ∷ (refinedAt (single 1 1 (pos 64)) 2 2 is pos 1)
+    ∷ (refinedAt (single 1 1 (pos 64)) 3 3 is pos 0)
+    -- E7 refine (0,0)=1: only new (0,0) is 1
+    ∷ (refinedAt (single 1 1 (pos 1)) 0 0 is pos 1)
+    ∷ (pos (nonzero (single 1 1 (pos 1)) 25) is pos 1)
+    -- E8 (0,0)=-32: new (2,2) is 0
+    ∷ (refinedAt (single 1 1 (negℤ (pos 32))) 2 2 is pos 0)
+    ∷ []
+
+-- the whole table, computed
+pub examples : T (allHold table)
+unfolding table allHold _is_ equal single heightOf refinedAt nonzero floor near square cube numerator denominator cell offset along height masked finer finer2 refined
+examples = tt

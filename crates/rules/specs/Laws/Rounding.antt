@@ -1,0 +1,127 @@
+-- The laws of floor and near, for any divisor d ≥ 1: their bounds, that these fix them, and what follows from near's distance alone.
+use mathlib.Core.Path.{_≡_, ap, subst}
+use mathlib.Core.Logic.{_↔_, inl, inr}
+use Prim.Native.Nat.{ℕ, _+_, _*_, _≤_, _<_, zero-le}
+use native.Mathlib.Nat.{div-add-mod, mod-lt, le-of-mul-le-mul-left}
+use native.Mathlib.Omega.{arith}
+use lib.IntN.{ℤ, pos, negsuc, natAbs, _+ℤ_, _-ℤ_, _*ℤ_, +ℤ-idr, +ℤ-invr, *ℤ-comm}
+use lib.Signed.{_≤ℤ_, _<ℤ_, ≤ℤ-refl}
+use Rattle.algebra.specs.Difference.{split, whole}
+use Rattle.algebra.specs.Size.{≤ℤ-antisym, ≤ℤ-<ℤ-trans, <ℤ-suc, ≡-or-<ℤ, <ℤ-cancel, natAbs-sum, natAbs-product, same-of-natAbs}
+use Rattle.rules.specs.Rounding.{floor, near}
+
+-- ---- floor
+
+-- n is the largest whole number that is at most v / d
+pub record Floored (v : ℤ) (d : ℕ) (n : ℤ) : Type 0 where
+  pub low : (pos d *ℤ n) ≤ℤ v
+  pub high : v <ℤ (pos d *ℤ (n +ℤ pos 1))
+
+pub floor-bound : (v : ℤ) (d : ℕ) → 0 < d → Floored v d (floor v d)
+unfolding floor
+floor-bound (pos a) d h = record {
+  low = simp whole (omega (arith, div-add-mod a d));
+  high = simp whole (omega (arith, div-add-mod a d, mod-lt a h));
+}
+floor-bound (negsuc a) d h = record {
+  low = simp whole (omega (arith, div-add-mod a d, mod-lt a h));
+  high = simp whole (omega (arith, div-add-mod a d));
+}
+
+-- of two such numbers neither is the larger
+below : (v : ℤ) (d : ℕ) (m n : ℤ) → Floored v d m → Floored v d n → m ≤ℤ n
+below v d m n f g = <ℤ-suc m n .0 (<ℤ-cancel d m (n +ℤ pos 1) (≤ℤ-<ℤ-trans (f .low) (g .high)))
+
+pub floor-unique : (v : ℤ) (d : ℕ) (n : ℤ) → 0 < d → Floored v d n → n ≡ floor v d
+floor-unique v d n h f = ≤ℤ-antisym (below v d n (floor v d) f g) (below v d (floor v d) n g f)
+  where
+    g : Floored v d (floor v d)
+    g = floor-bound v d h
+
+-- ---- near
+
+-- n is the nearest whole number to v / d, an exact half going to the larger
+pub record Nearest (v : ℤ) (d : ℕ) (n : ℤ) : Type 0 where
+  pub low : ((pos 2 *ℤ n -ℤ pos 1) *ℤ pos d) ≤ℤ (pos 2 *ℤ v)
+  pub high : (pos 2 *ℤ v) <ℤ ((pos 2 *ℤ n +ℤ pos 1) *ℤ pos d)
+
+-- which says that n is the floor of (2v + d) / 2d
+low-same : (v n : ℤ) (d : ℕ) → (((pos 2 *ℤ n -ℤ pos 1) *ℤ pos d) ≤ℤ (pos 2 *ℤ v)) ↔ ((pos (2 * d) *ℤ n) ≤ℤ (pos 2 *ℤ v +ℤ pos d))
+low-same v n d = rw (split v, split n) (simp whole (omega arith))
+
+high-same : (v n : ℤ) (d : ℕ) → ((pos 2 *ℤ v) <ℤ ((pos 2 *ℤ n +ℤ pos 1) *ℤ pos d)) ↔ ((pos 2 *ℤ v +ℤ pos d) <ℤ (pos (2 * d) *ℤ (n +ℤ pos 1)))
+high-same v n d = rw (split v, split n) (simp whole (omega arith))
+
+pub near-nearest : (v : ℤ) (d : ℕ) → 0 < d → Nearest v d (near v d)
+unfolding near
+near-nearest v d h = record { low = low-same v (near v d) d .1 (f .low); high = high-same v (near v d) d .1 (f .high) }
+  where
+    f : Floored (pos 2 *ℤ v +ℤ pos d) (2 * d) (near v d)
+    f = floor-bound (pos 2 *ℤ v +ℤ pos d) (2 * d) (omega arith)
+
+pub nearest-unique : (v : ℤ) (d : ℕ) (n : ℤ) → 0 < d → Nearest v d n → n ≡ near v d
+unfolding near
+nearest-unique v d n h f =
+    floor-unique (pos 2 *ℤ v +ℤ pos d) (2 * d) n (omega arith)
+    (record { low = low-same v n d .0 (f .low); high = high-same v n d .0 (f .high) })
+
+pub near-distance : (v : ℤ) (d : ℕ) → 0 < d → natAbs (pos 2 *ℤ (pos d *ℤ near v d -ℤ v)) ≤ d
+near-distance v d h = close v (near v d) (near-nearest v d h .low) (near-nearest v d h .high)
+  where
+    close : (v n : ℤ) → ((pos 2 *ℤ n -ℤ pos 1) *ℤ pos d) ≤ℤ (pos 2 *ℤ v) → (pos 2 *ℤ v) <ℤ ((pos 2 *ℤ n +ℤ pos 1) *ℤ pos d) → natAbs (pos 2 *ℤ (pos d *ℤ n -ℤ v)) ≤ d
+    close v n = rw (split v, split n) (simp whole (omega arith))
+
+-- ---- what follows from the distance alone, however an exact half is treated
+
+-- r rounds the multiples of 1 / d to whole numbers: 2 |d · r v - v| ≤ d
+pub record Rounds (d : ℕ) (r : ℤ → ℤ) : Type 0 where
+  pub positive : 0 < d
+  pub distance : (v : ℤ) → natAbs (pos 2 *ℤ (pos d *ℤ r v -ℤ v)) ≤ d
+
+-- at v = w the two values are one since r is a function, and else they cannot cross
+pub rounds-monotone : {d : ℕ} {r : ℤ → ℤ} → Rounds d r → (v w : ℤ) → v ≤ℤ w → r v ≤ℤ r w
+rounds-monotone {d} {r} R v w h = elim (≡-or-<ℤ h) [
+  | inl e ↦ subst (λ (x : ℤ). r v ≤ℤ r x) e (≤ℤ-refl (r v))
+  | inr k ↦ <ℤ-suc (r v) (r w) .0 (<ℤ-cancel d (r v) (r w +ℤ pos 1) (apart v w (r v) (r w) (R .distance v) (R .distance w) k))
+]
+  where
+    apart : (v w m n : ℤ) → natAbs (pos 2 *ℤ (pos d *ℤ m -ℤ v)) ≤ d → natAbs (pos 2 *ℤ (pos d *ℤ n -ℤ w)) ≤ d → v <ℤ w → (pos d *ℤ m) <ℤ (pos d *ℤ (n +ℤ pos 1))
+    apart v w m n = rw (split v, split w, split m, split n) (simp whole (omega arith))
+
+-- what is within B units of n is rounded to within B of n
+pub rounds-about : {d : ℕ} {r : ℤ → ℤ} → Rounds d r → (v n : ℤ) (B : ℕ) → natAbs (v -ℤ pos d *ℤ n) ≤ d * B → natAbs (r v -ℤ n) ≤ B
+rounds-about {d} {r} R v n B h =
+    let whole-size : 2 * d * natAbs (r v -ℤ n) ≤ d + 2 * (d * B) = omega (arith, natAbs-product (pos (2 * d)) (r v -ℤ n), ap natAbs (parts v (r v) n), natAbs-sum (pos 2 *ℤ (pos d *ℤ r v -ℤ v)) (pos 2 *ℤ (v -ℤ pos d *ℤ n)), natAbs-product (pos 2) (v -ℤ pos d *ℤ n), R .distance v) in
+    let twice : 2 * natAbs (r v -ℤ n) ≤ 2 * B + 1 = le-of-mul-le-mul-left {k = d} (omega arith) (R .positive) in
+    omega arith
+  where
+    parts : (v m n : ℤ) → pos (2 * d) *ℤ (m -ℤ n) ≡ pos 2 *ℤ (pos d *ℤ m -ℤ v) +ℤ pos 2 *ℤ (v -ℤ pos d *ℤ n)
+    parts v m n = rw (split v, split m, split n) (simp whole (omega arith))
+
+pub rounds-exact : {d : ℕ} {r : ℤ → ℤ} → Rounds d r → (n : ℤ) → r (pos d *ℤ n) ≡ n
+rounds-exact {d} {r} R n =
+    let h : natAbs (r (pos d *ℤ n) -ℤ n) ≤ 0 = rounds-about R (pos d *ℤ n) n 0 (rw (+ℤ-invr (pos d *ℤ n)) zero-le) in
+    same-of-natAbs (r (pos d *ℤ n)) n (omega arith)
+
+pub rounds-within : {d : ℕ} {r : ℤ → ℤ} → Rounds d r → (v : ℤ) (B : ℕ) → natAbs v ≤ d * B → natAbs (r v) ≤ B
+rounds-within {d} {r} R v B h = rw (+ℤ-idr (r v)) at (rounds-about R v (pos 0) B (rw (from-zero v) h))
+  where
+    from-zero : (v : ℤ) → v -ℤ pos d *ℤ pos 0 ≡ v
+    from-zero v = rw (split v) (simp whole (omega arith))
+
+-- ---- so of near
+
+pub near-rounds : (d : ℕ) → 0 < d → Rounds d (λ v. near v d)
+near-rounds d h = record { positive = h; distance = λ v. near-distance v d h }
+
+pub near-monotone : (v w : ℤ) (d : ℕ) → 0 < d → v ≤ℤ w → near v d ≤ℤ near w d
+near-monotone v w d h = rounds-monotone (near-rounds d h) v w
+
+pub near-exact : (n : ℤ) (d : ℕ) → 0 < d → near (pos d *ℤ n) d ≡ n
+near-exact n d h = rounds-exact (near-rounds d h) n
+
+pub near-exact-right : (n : ℤ) (d : ℕ) → 0 < d → near (n *ℤ pos d) d ≡ n
+near-exact-right n d h = rw (*ℤ-comm n (pos d)) (near-exact n d h)
+
+pub near-within : (v : ℤ) (d B : ℕ) → 0 < d → natAbs v ≤ d * B → natAbs (near v d) ≤ B
+near-within v d B h = rounds-within (near-rounds d h) v B

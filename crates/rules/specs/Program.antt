@@ -1,0 +1,47 @@
+-- The program of document 01: what it writes on standard output for the bytes of its standard input. Definitions only.
+use Prim.Native.Nat.{ℕ, zero, suc, _+_, _/_, _%_}
+use mathlib.Core.Bool.{_&&_, cond}
+use mathlib.Core.Option.{none, some}
+use mathlib.Core.List.{List, [], _∷_, _++_}
+use lib.Dec.{leb, ltb}
+use lib.ListN.{length}
+use Rattle.algebra.specs.Table.{tabulate}
+use Rattle.rules.specs.Level.{Point}
+use Rattle.rules.specs.Fit.{Shape, columns, rows, pointsOf, running, levelsCheck}
+use Rattle.rules.specs.Answers.{Refusal, number, place, short, Check, require, _then_}
+use Rattle.rules.specs.LatticeFile.{latticeFile}
+use Rattle.rules.specs.PointFile.{fileShape, filePoints, fileX, fileY, fileZ, pointFileCheck}
+
+-- a number in decimal, as characters; its digits are at most k + 1
+unfoldable pub digits : ℕ → ℕ → List ℕ
+digits zero v = (48 + v) ∷ []
+digits (suc k) v = cond (ltb v 10) ((48 + v) ∷ []) (digits k (v / 10) ++ ((48 + v % 10) ∷ []))
+
+unfoldable pub decimal : ℕ → List ℕ
+decimal v = digits v v
+
+-- "one line "refused N P" (number, place, decimal, one newline after)"
+unfoldable pub refusedLine : Refusal → List ℕ
+refusedLine r =
+    (114 ∷ 101 ∷ 102 ∷ 117 ∷ 115 ∷ 101 ∷ 100 ∷ 32 ∷ []) ++ decimal (number r) ++ (32 ∷ []) ++ decimal (place r) ++ (10 ∷ [])
+
+-- the points that a point file holds
+unfoldable pub pointsIn : List ℕ → List Point
+pointsIn file = let p = filePoints file in pointsOf (tabulate p (fileX file)) (tabulate p (fileY file)) (tabulate p (fileZ file))
+
+-- "It takes at most 7,008 bytes and 16 finest cells a side. More bytes: refused 4 0, before reading the file; more cells: the same, after the reader"
+unfoldable pub programCheck : List ℕ → Check
+programCheck input =
+    let a = fileShape input in
+    require (leb (length input) 7_008) short
+    then pointFileCheck input
+    then require (leb (columns a (a .h)) 16 && leb (rows a (a .h)) 16) short
+    then levelsCheck a (pointsIn input)
+
+-- "writes the lattice file, or one line"
+unfoldable pub written : Check → Shape → List Point → List ℕ
+written (some r) a points = refusedLine r
+written none a points = latticeFile (columns a (a .h)) (rows a (a .h)) (running a points (a .h))
+
+unfoldable pub programOutput : List ℕ → List ℕ
+programOutput input = written (programCheck input) (fileShape input) (pointsIn input)
