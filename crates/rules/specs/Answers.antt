@@ -38,7 +38,7 @@ pub data Refusal : Type 0 where
   trailing : ℕ → Refusal
 
 -- the column "Number"
-unfoldable pub number : Refusal → ℕ
+abbrev pub number : Refusal → ℕ
 number cells = 1
 number levels = 2
 number unit = 2
@@ -56,7 +56,7 @@ number (field b) = 11
 number (trailing b) = 12
 
 -- the place of the column "Returned". "A refusal whose place .. [isn't] said returns place 0"
-unfoldable pub place : Refusal → ℕ
+abbrev pub place : Refusal → ℕ
 place cells = 0
 place levels = 0
 place unit = 0
@@ -74,7 +74,7 @@ place (field b) = b
 place (trailing b) = b
 
 -- whether the fit had begun its levels, so that it used the scratch
-unfoldable pub inLevels : Refusal → Bool
+abbrev pub inLevels : Refusal → Bool
 inLevels cells = false
 inLevels levels = false
 inLevels unit = false

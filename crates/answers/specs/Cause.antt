@@ -1,0 +1,28 @@
+-- The code's refusals and verdicts as those of the rules: `number` and `place` of the rules then give document 01's number and place for each case.
+use mathlib.Core.Option.{none, some}
+use Rattle.rules.specs.Answers as rule
+use Rattle.answers.specs.declared.Refusal.{Refusal}
+use Rattle.answers.specs.declared.Refusal.the-variants.{Cells, Levels, Unit, Lists, Short, Position, Range, Quotient, Residual, Sum, Size, Incomplete, Mark, Field, Trailing}
+use Rattle.answers.specs.declared.Verdict.{Verdict}
+use Rattle.answers.specs.declared.Verdict.the-variants.{Fine, Refused}
+
+abbrev pub cause : Refusal → rule.Refusal
+cause Cells = rule.cells
+cause Levels = rule.levels
+cause Unit = rule.unit
+cause Lists = rule.lists
+cause Short = rule.short
+cause (Position i) = rule.position i
+cause (Range i) = rule.range i
+cause (Quotient k) = rule.quotient k
+cause (Residual k) = rule.residual k
+cause (Sum k) = rule.sum k
+cause Size = rule.size
+cause (Incomplete b) = rule.incomplete b
+cause (Mark b) = rule.mark b
+cause (Field b) = rule.field b
+cause (Trailing b) = rule.trailing b
+
+abbrev pub check : Verdict → rule.Check
+check Fine = none
+check (Refused r) = some (cause r)

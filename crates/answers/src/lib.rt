@@ -1,0 +1,73 @@
+// What the caller is told: document 01's table of refusals, as a type of the code, with the number and the place of each.
+ghost use mathlib.Core.Path.{_≡_};
+ghost use Rattle.rules.specs.Answers as rule;
+ghost use Rattle.answers.specs.Cause.{cause};
+
+// The causes of the table, in its order. One that has a place holds it.
+pub enum Refusal {
+    Cells,
+    Levels,
+    Unit,
+    Lists,
+    Short,
+    Position(usize),
+    Range(usize),
+    Quotient(usize),
+    Residual(usize),
+    Sum(usize),
+    Size,
+    Incomplete(usize),
+    Mark(usize),
+    Field(usize),
+    Trailing(usize),
+}
+
+// What a check finds.
+pub enum Verdict {
+    Fine,
+    Refused(Refusal),
+}
+
+pub fn number(r: Refusal) -> usize
+    ensures { λ n. ⌜ n ≡ rule.number (cause r) ⌝ }
+{
+    match r {
+        Refusal::Cells => 1,
+        Refusal::Levels => 2,
+        Refusal::Unit => 2,
+        Refusal::Lists => 3,
+        Refusal::Short => 4,
+        Refusal::Position(_) => 5,
+        Refusal::Range(_) => 6,
+        Refusal::Quotient(_) => 7,
+        Refusal::Residual(_) => 7,
+        Refusal::Sum(_) => 7,
+        Refusal::Size => 8,
+        Refusal::Incomplete(_) => 9,
+        Refusal::Mark(_) => 10,
+        Refusal::Field(_) => 11,
+        Refusal::Trailing(_) => 12,
+    }
+}
+
+pub fn place(r: Refusal) -> usize
+    ensures { λ p. ⌜ p ≡ rule.place (cause r) ⌝ }
+{
+    match r {
+        Refusal::Cells => 0,
+        Refusal::Levels => 0,
+        Refusal::Unit => 0,
+        Refusal::Lists => 0,
+        Refusal::Short => 0,
+        Refusal::Position(i) => i,
+        Refusal::Range(i) => i,
+        Refusal::Quotient(k) => k,
+        Refusal::Residual(k) => k,
+        Refusal::Sum(k) => k,
+        Refusal::Size => 0,
+        Refusal::Incomplete(b) => b,
+        Refusal::Mark(b) => b,
+        Refusal::Field(b) => b,
+        Refusal::Trailing(b) => b,
+    }
+}
