@@ -1,1 +1,3 @@
+pub mod Basis
+pub mod Checks
 pub mod Rounding

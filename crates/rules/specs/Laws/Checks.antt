@@ -1,0 +1,106 @@
+-- Laws of checks: what an accepted run of checks has shown, and which offender a refusal names.
+use mathlib.Core.Path.{_≡_, refl, sym, _∙_, ap}
+use mathlib.Core.Bool.{Bool, true, false, _&&_}
+use mathlib.Core.Option.{Option, none, some}
+use mathlib.Core.List.{List}
+use Prim.Native.Nat.{ℕ, zero, suc, _≤_, _<_}
+use native.Mathlib.Nat.{not-suc-le-zero, le-of-suc-le-suc}
+use native.Mathlib.Decide.{decLt}
+use native.Mathlib.Omega.{arith}
+use lib.Dec.{T, leb, leb→le, le→leb}
+use lib.IntN.{ℤ, pos, natAbs}
+use lib.ListN.{getD}
+use Rattle.rules.specs.Grid.{limit, inRange}
+use Rattle.rules.specs.Answers.{Refusal, Check, require, _then_, firstOf, rangeCheck, Answer, accepted, refused, answer}
+
+-- ---- one check
+
+pub required : (b : Bool) (r : Refusal) → require b r ≡ none → T b
+unfolding require
+required true r e = tt
+required false r e = let z : _≡_ {A = ℕ} 0 1 = cc in absurd (zero-one z)
+  where
+    zero-one : _≡_ {A = ℕ} 0 1 → ⊥
+    zero-one e = omega arith
+
+pub require-met : (b : Bool) (r : Refusal) → T b → require b r ≡ none
+unfolding require
+require-met true r t = refl
+require-met false r t = absurd t
+
+-- ---- one check after another
+
+pub then-first : (c d : Check) → (c then d) ≡ none → c ≡ none
+unfolding _then_
+then-first none d e = refl
+then-first (some r) d e = e
+
+pub then-rest : (c d : Check) → (c then d) ≡ none → d ≡ none
+unfolding _then_
+then-rest none d e = e
+then-rest (some r) d e = let z : d ≡ none = cc in z
+
+pub then-none : (c d : Check) → c ≡ none → (c then d) ≡ d
+unfolding _then_
+then-none c d e = rw e refl
+
+-- ---- the first of many
+
+pub firstOf-none : (n : ℕ) (f : ℕ → Check) → firstOf n f ≡ none → (i : ℕ) → i < n → f i ≡ none
+unfolding firstOf
+firstOf-none zero f e i h = absurd (not-suc-le-zero h)
+firstOf-none (suc n) f e i h = go (decLt i n) (firstOf-none n f (then-first (firstOf n f) (f n) e) i)
+  where
+    go : Dec (i < n) → (i < n → f i ≡ none) → f i ≡ none
+    go (yes l) ih = ih l
+    go (no g) ih = let same : i ≡ n = omega arith in rw same (then-rest (firstOf n f) (f n) e)
+
+pub firstOf-all : (n : ℕ) (f : ℕ → Check) → ((i : ℕ) → i < n → f i ≡ none) → firstOf n f ≡ none
+unfolding firstOf
+firstOf-all zero f h = refl
+firstOf-all (suc n) f h = then-none (firstOf n f) (f n) (firstOf-all n f (λ i l. h i (omega arith))) ∙ h n (omega arith)
+
+-- the refusal of i, where none below i is refused
+pub firstOf-at : (n i : ℕ) (f : ℕ → Check) (r : Refusal) → firstOf i f ≡ none → i < n → f i ≡ some r → firstOf n f ≡ some r
+unfolding firstOf _then_
+firstOf-at zero i f r e l s = absurd (not-suc-le-zero l)
+firstOf-at (suc n) i f r e l s = go (decLt i n) (firstOf-at n i f r e)
+  where
+    go : Dec (i < n) → (i < n → f i ≡ some r → firstOf n f ≡ some r) → (firstOf n f then f n) ≡ some r
+    go (yes k) ih = rw (ih k s) refl
+    go (no g) ih = let same : i ≡ n = omega arith in then-none (firstOf n f) (f n) (rw (sym same) e) ∙ rw (sym same) s
+
+-- ---- ranges
+
+pub inRange-size : (z : ℤ) → T (inRange z) → natAbs z ≤ limit
+unfolding inRange
+inRange-size z t = leb→le (natAbs z) limit t
+
+pub size-inRange : (z : ℤ) → natAbs z ≤ limit → T (inRange z)
+unfolding inRange
+size-inRange z h = le→leb (natAbs z) limit h
+
+pub rangeCheck-size : (n : ℕ) (values : List ℤ) (f : ℕ → Refusal) → rangeCheck n values f ≡ none
+    → (i : ℕ) → i < n → natAbs (getD values i (pos 0)) ≤ limit
+unfolding rangeCheck
+rangeCheck-size n values f e i l =
+    inRange-size (getD values i (pos 0)) (required (inRange (getD values i (pos 0))) (f i) (firstOf-none n (λ i. require (inRange (getD values i (pos 0))) (f i)) e i l))
+
+pub size-rangeCheck : (n : ℕ) (values : List ℤ) (f : ℕ → Refusal) → ((i : ℕ) → i < n → natAbs (getD values i (pos 0)) ≤ limit)
+    → rangeCheck n values f ≡ none
+unfolding rangeCheck
+size-rangeCheck n values f h =
+    firstOf-all n (λ i. require (inRange (getD values i (pos 0))) (f i))
+    (λ i l. require-met (inRange (getD values i (pos 0))) (f i) (size-inRange (getD values i (pos 0)) (h i l)))
+
+-- ---- answers
+
+pub answer-none : {A : Type 0} (c : Check) (a b : A) → answer c a ≡ accepted b → c ≡ none
+unfolding answer
+answer-none none a b e = refl
+answer-none (some r) a b e = let z : some r ≡ none = cc in z
+
+pub answer-value : {A : Type 0} (c : Check) (a b : A) → answer c a ≡ accepted b → a ≡ b
+unfolding answer
+answer-value none a b e = cc
+answer-value (some r) a b e = cc
