@@ -1,3 +1,4 @@
 pub mod Basis
 pub mod Checks
 pub mod Rounding
+pub mod TwoScale

@@ -21,7 +21,7 @@ weights a b (suc (suc zero)) = b * b * b + 6 * (b * b * a) + 12 * (b * a * a) + 
 weights a b (suc (suc (suc k))) = a * a * a
 
 -- `numerator`, for the solver
-quoted : Expr → Expr → ℕ → Expr
+unfoldable pub quoted : Expr → Expr → ℕ → Expr
 quoted U a zero = (U ⊖ a) ⊗ (U ⊖ a) ⊗ (U ⊖ a)
 quoted U a (suc zero) = con (pos 3) ⊗ (a ⊗ a ⊗ a) ⊖ con (pos 6) ⊗ (a ⊗ a) ⊗ U ⊕ con (pos 4) ⊗ (U ⊗ U ⊗ U)
 quoted U a (suc (suc zero)) = neg (con (pos 3)) ⊗ (a ⊗ a ⊗ a) ⊕ con (pos 3) ⊗ (a ⊗ a) ⊗ U ⊕ con (pos 3) ⊗ a ⊗ (U ⊗ U) ⊕ U ⊗ U ⊗ U

@@ -1,0 +1,1 @@
+// Facts of the machine's i64 arithmetic, in specs/ alone: this crate has no code.
