@@ -1,13 +1,13 @@
 -- Lists as tables: a list by its entries' rule, a list joined from parts, and a result laid over the start of a slice, with their laws.
-use mathlib.Core.Path.{_≡_, refl, sym, ap, _∙_}
-use mathlib.Core.List.{List, [], _∷_, _++_, append-assoc}
+use mathlib.Core.Path.{_≡_, refl, sym, ap, ap₂, _∙_}
+use mathlib.Core.List.{List, [], _∷_, _++_, append-assoc, append-nil}
 use Prim.Native.Nat.{ℕ, zero, suc, _+_, _-_, _≤_, _<_}
 use native.Mathlib.Numerals.{add-one}
 use native.Mathlib.Omega.{arith}
 use native.Mathlib.Decide.{decLt}
-use native.Mathlib.Nat.{not-suc-le-zero}
-use lib.ListN.{length, getD, drop, length-append, length-drop, List·getD-append}
-use lib.Seq.{getD-append-seam, getD-at}
+use native.Mathlib.Nat.{not-suc-le-zero, add-zero, add-suc}
+use lib.ListN.{length, getD, take, drop, set, length-append, length-take, length-drop, drop-of-length-le, List·getD-append}
+use lib.Seq.{getD-at, getD-append-add, getD-drop, drop-cons, set-at, take-at, drop-at, drop-drop}
 
 module _ {ℓ} {A : Type ℓ} where
   -- f 0, f 1, .. f (n - 1)
@@ -37,3 +37,82 @@ module _ {ℓ} {A : Type ℓ} where
       go : Dec (i < n) → (i < n → getD (tabulate n f) i d ≡ f i) → getD (tabulate n f ++ (f n ∷ [])) i d ≡ f i
       go (yes l) ih = List·getD-append (tabulate n f) (f n ∷ []) d i (rw (length-tabulate n f) l) ∙ ih l
       go (no g) ih = let e : i ≡ n = omega arith in rw e (getD-at (tabulate n f) (f n) [] d n (length-tabulate n f))
+
+  pub tabulate-same : (n : ℕ) (f g : ℕ → A) → ((i : ℕ) → i < n → f i ≡ g i) → tabulate n f ≡ tabulate n g
+  unfolding tabulate
+  tabulate-same zero f g h = refl
+  tabulate-same (suc n) f g h = ap₂ (λ l x. l ++ (x ∷ [])) (tabulate-same n f g (λ i l. h i (omega arith))) (h n (omega arith))
+
+  pub tabulate-add : (n k : ℕ) (f : ℕ → A) → tabulate (n + k) f ≡ tabulate n f ++ tabulate k (λ i. f (n + i))
+  unfolding tabulate
+  tabulate-add n zero f = rw (add-zero n) (sym (append-nil (tabulate n f)))
+  tabulate-add n (suc k) f =
+      rw (add-suc n k)
+      (ap (λ l. l ++ (f (n + k) ∷ [])) (tabulate-add n k f) ∙ append-assoc (tabulate n f) (tabulate k (λ i. f (n + i))) (f (n + k) ∷ []))
+
+  -- ---- a result over a slice
+
+  pub length-over : (r d : List A) → length r ≤ length d → length (over r d) ≡ length d
+  unfolding over
+  length-over r d h = simp (length-append, length-drop) (omega arith)
+
+  pub over-none : (d : List A) → over [] d ≡ d
+  unfolding over
+  over-none d = refl
+
+  pub getD-over : (r d : List A) (i : ℕ) (z : A) → i < length r → getD (over r d) i z ≡ getD r i z
+  unfolding over
+  getD-over r d i z h = List·getD-append r (drop (length r) d) z i h
+
+  pub getD-past : (r d : List A) (i : ℕ) (z : A) → length r ≤ i → getD (over r d) i z ≡ getD d i z
+  unfolding over
+  getD-past r d i z h =
+      let e : i ≡ length r + (i - length r) = omega arith in
+      ap (λ k. getD (r ++ drop (length r) d) k z) e
+      ∙ getD-append-add r (drop (length r) d) (i - length r) z
+      ∙ getD-drop (length r) d (i - length r) z
+      ∙ ap (λ k. getD d k z) (sym e)
+
+  -- the same with the length of the result written out
+  pub over-length : (n : ℕ) (r d : List A) → length r ≡ n → over r d ≡ r ++ drop n d
+  unfolding over
+  over-length n r d e = ap (λ k. r ++ drop k d) e
+
+  -- what a store of the next entry makes of a slice that is filled up to it
+  pub fill-more : (i : ℕ) (f : ℕ → A) (d : List A) (z : A) → i < length d → set (over (tabulate i f) d) i (f i) ≡ over (tabulate (i + 1) f) d
+  unfolding tabulate
+  fill-more i f d z h =
+      ap (λ l. set l i (f i)) (over-length i (tabulate i f) d (length-tabulate i f) ∙ ap (λ l. tabulate i f ++ l) (drop-cons d i z h))
+      ∙ set-at (tabulate i f) (getD d i z) (drop (suc i) d) (f i) i (length-tabulate i f)
+      ∙ sym (append-assoc (tabulate i f) (f i ∷ []) (drop (suc i) d))
+      ∙ sym (over-length (suc i) (tabulate (suc i) f) d (length-tabulate (suc i) f))
+      ∙ ap (λ k. over (tabulate k f) d) (sym (add-one i))
+
+  -- what the next k entries, written to a part of their own, make of a slice that is filled up to it
+  pub fill-part : (n k : ℕ) (f : ℕ → A) (d : List A) → n + k ≤ length d
+      → take n (over (tabulate n f) d) ++ (over (tabulate k (λ i. f (n + i))) (take k (drop n (over (tabulate n f) d))) ++ drop (n + k) (over (tabulate n f) d))
+      ≡ over (tabulate (n + k) f) d
+  fill-part n k f d h =
+      rw (over-length n (tabulate n f) d e, take-at (tabulate n f) (drop n d) n e, drop-at (tabulate n f) (drop n d) n e, over-length k g part (length-tabulate k next), drop-of-length-le part short, rest)
+      (ap (λ l. tabulate n f ++ (l ++ drop (n + k) d)) (append-nil g)
+      ∙ sym (append-assoc (tabulate n f) g (drop (n + k) d))
+      ∙ ap (λ l. l ++ drop (n + k) d) (sym (tabulate-add n k f))
+      ∙ sym (over-length (n + k) (tabulate (n + k) f) d (length-tabulate (n + k) f)))
+    where
+      e : length (tabulate n f) ≡ n
+      e = length-tabulate n f
+
+      next : ℕ → A
+      next i = f (n + i)
+
+      g : List A
+      g = tabulate k next
+
+      part : List A
+      part = take k (drop n d)
+
+      short : length part ≤ k
+      short = rw (length-take k (drop n d)) (omega arith)
+
+      rest : drop (n + k) (tabulate n f ++ drop n d) ≡ drop (n + k) d
+      rest = sym (drop-drop k n (tabulate n f ++ drop n d)) ∙ ap (drop k) (drop-at (tabulate n f) (drop n d) n e) ∙ drop-drop k n d

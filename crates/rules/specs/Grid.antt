@@ -8,7 +8,7 @@ use lib.ListN.{getD}
 use Rattle.algebra.specs.Table.{tabulate}
 
 -- "whole micrometres from -4,000,000,000 to 4,000,000,000 ("in range")"
-unfoldable pub limit : ℕ
+abbrev pub limit : ℕ
 limit = 4_000_000_000
 
 unfoldable pub inRange : ℤ → Bool

@@ -72,6 +72,10 @@ firstOf-at (suc n) i f r e l s = go (decLt i n) (firstOf-at n i f r e)
 
 -- ---- ranges
 
+-- the first n values are in range
+abbrev pub AllInRange : ℕ → List ℤ → Type 0
+AllInRange n values = (i : ℕ) → i < n → natAbs (getD values i (pos 0)) ≤ limit
+
 pub inRange-size : (z : ℤ) → T (inRange z) → natAbs z ≤ limit
 unfolding inRange
 inRange-size z t = leb→le (natAbs z) limit t
@@ -80,14 +84,12 @@ pub size-inRange : (z : ℤ) → natAbs z ≤ limit → T (inRange z)
 unfolding inRange
 size-inRange z h = le→leb (natAbs z) limit h
 
-pub rangeCheck-size : (n : ℕ) (values : List ℤ) (f : ℕ → Refusal) → rangeCheck n values f ≡ none
-    → (i : ℕ) → i < n → natAbs (getD values i (pos 0)) ≤ limit
+pub rangeCheck-size : (n : ℕ) (values : List ℤ) (f : ℕ → Refusal) → rangeCheck n values f ≡ none → AllInRange n values
 unfolding rangeCheck
 rangeCheck-size n values f e i l =
     inRange-size (getD values i (pos 0)) (required (inRange (getD values i (pos 0))) (f i) (firstOf-none n (λ i. require (inRange (getD values i (pos 0))) (f i)) e i l))
 
-pub size-rangeCheck : (n : ℕ) (values : List ℤ) (f : ℕ → Refusal) → ((i : ℕ) → i < n → natAbs (getD values i (pos 0)) ≤ limit)
-    → rangeCheck n values f ≡ none
+pub size-rangeCheck : (n : ℕ) (values : List ℤ) (f : ℕ → Refusal) → AllInRange n values → rangeCheck n values f ≡ none
 unfolding rangeCheck
 size-rangeCheck n values f h =
     firstOf-all n (λ i. require (inRange (getD values i (pos 0))) (f i))
