@@ -35,6 +35,12 @@ natAbs-range z B = rw (split z) (simp whole (omega arith))
 
 -- ---- order
 
+pub below-range : (z : ℤ) (B : ℕ) → z <ℤ negℤ (pos B) → B < natAbs z
+below-range z B = rw (split z) (simp whole (omega arith))
+
+pub above-range : (z : ℤ) (B : ℕ) → pos B <ℤ z → B < natAbs z
+above-range z B = rw (split z) (simp whole (omega arith))
+
 pub ≤ℤ-trans : {a b c : ℤ} → a ≤ℤ b → b ≤ℤ c → a ≤ℤ c
 ≤ℤ-trans {a} {b} {c} = rw (split a, split b, split c) (simp whole (omega arith))
 

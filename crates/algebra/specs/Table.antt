@@ -7,7 +7,7 @@ use native.Mathlib.Omega.{arith}
 use native.Mathlib.Decide.{decLt}
 use native.Mathlib.Nat.{not-suc-le-zero, add-zero, add-suc}
 use lib.ListN.{length, getD, take, drop, set, length-append, length-take, length-drop, drop-of-length-le, List·getD-append}
-use lib.Seq.{getD-at, getD-append-add, getD-drop, drop-cons, set-at, take-at, drop-at, drop-drop}
+use lib.Seq.{getD-at, getD-append-add, getD-drop, drop-cons, set-at, take-at, drop-at, drop-drop, take-append-seam, drop-append-add}
 
 module _ {ℓ} {A : Type ℓ} where
   -- f 0, f 1, .. f (n - 1)
@@ -23,6 +23,10 @@ module _ {ℓ} {A : Type ℓ} where
   -- the slice d with the list r over its first places; places past r stay as they were
   unfoldable pub over : List A → List A → List A
   over r d = r ++ drop (length r) d
+
+  -- the slice d with the list r over its places from n on
+  unfoldable pub laid : ℕ → List A → List A → List A
+  laid n r d = take n d ++ (r ++ drop (n + length r) d)
 
   pub length-tabulate : (n : ℕ) (f : ℕ → A) → length (tabulate n f) ≡ n
   unfolding tabulate
@@ -116,3 +120,14 @@ module _ {ℓ} {A : Type ℓ} where
 
       rest : drop (n + k) (tabulate n f ++ drop n d) ≡ drop (n + k) d
       rest = sym (drop-drop k n (tabulate n f ++ drop n d)) ∙ ap (drop k) (drop-at (tabulate n f) (drop n d) n e) ∙ drop-drop k n d
+
+  -- the next entries, laid where a result ends, make it longer
+  pub laid-over : (r next d : List A) → laid (length r) next (over r d) ≡ over (r ++ next) d
+  unfolding laid over
+  laid-over r next d =
+      rw (take-append-seam r (drop (length r) d), drop-append-add r (drop (length r) d) (length next), drop-drop (length next) (length r) d, length-append r next)
+      (sym (append-assoc r next (drop (length r + length next) d)))
+
+  pub length-laid : (n : ℕ) (r d : List A) → n + length r ≤ length d → length (laid n r d) ≡ length d
+  unfolding laid
+  length-laid n r d h = simp (length-append, length-take, length-drop) (omega arith)

@@ -3,7 +3,7 @@ ghost use mathlib.Core.Path.{_≡_};
 ghost use Prim.Native.Nat.{ℕ, _≤_};
 ghost use lib.ListN.{length};
 ghost use Rattle.rules.specs.Answers as rule;
-ghost use Rattle.rules.specs.Grid.{controls};
+ghost use Rattle.rules.specs.Grid.{controls, inRange};
 ghost use Rattle.rules.specs.Calls.{cellsCheck, unitCheck, latticeCheck};
 ghost use Rattle.answers.specs.Cause.{check};
 ghost use Rattle.checks.specs.Found.{foundCheck, Exponent·says};
@@ -56,6 +56,19 @@ pub fn listed_unit(unit: usize) -> Exponent
     }
 }
 
+// "whole micrometres from -4,000,000,000 to 4,000,000,000"
+pub fn in_range(z: i64) -> bool
+    ensures { λ r. ⌜ r ≡ inRange z ⌝ }
+{
+    if z < -4_000_000_000 {
+        return false;
+    }
+    if 4_000_000_000 < z {
+        return false;
+    }
+    true
+}
+
 // The first of n values that is out of range. Every scan for an offender is this one.
 pub fn first_out(values: &[i64], n: usize) -> Found
     requires { ⌜ n ≤ length (now values) ⌝ }
@@ -63,11 +76,7 @@ pub fn first_out(values: &[i64], n: usize) -> Found
 {
     let mut i = 0;
     while i < n {
-        let z = values[i];
-        if z < -4_000_000_000 {
-            return Found::At(i);
-        }
-        if 4_000_000_000 < z {
+        if !in_range(values[i]) {
             return Found::At(i);
         }
         i += 1;

@@ -3,14 +3,15 @@ use mathlib.Core.Path.{_≡_, refl, sym, _∙_, ap}
 use mathlib.Core.Bool.{Bool, true, false, _&&_}
 use mathlib.Core.Option.{Option, none, some}
 use mathlib.Core.List.{List}
-use Prim.Native.Nat.{ℕ, zero, suc, _≤_, _<_}
+use Prim.Native.Nat.{ℕ, zero, suc, _+_, _≤_, _<_}
+use native.Mathlib.Numerals.{add-one}
 use native.Mathlib.Nat.{not-suc-le-zero, le-of-suc-le-suc}
 use native.Mathlib.Decide.{decLt}
 use native.Mathlib.Omega.{arith}
 use lib.Dec.{T, leb, leb→le, le→leb}
 use lib.IntN.{ℤ, pos, natAbs}
 use lib.ListN.{getD}
-use Rattle.rules.specs.Grid.{limit, inRange}
+use Rattle.rules.specs.Grid.{limit, inRange, within}
 use Rattle.rules.specs.Answers.{Refusal, Check, require, _then_, firstOf, rangeCheck, Answer, accepted, refused, answer}
 
 -- ---- one check
@@ -27,6 +28,16 @@ pub require-met : (b : Bool) (r : Refusal) → T b → require b r ≡ none
 unfolding require
 require-met true r t = refl
 require-met false r t = absurd t
+
+-- both of two tests passed
+pub both : (a b : Bool) → T (a && b) → T a × T b
+both true true t = (tt, tt)
+both true false t = absurd t
+both false b t = absurd t
+
+pub within-bounds : (low high v : ℕ) → T (within low high v) → (low ≤ v) × (v ≤ high)
+unfolding within
+within-bounds low high v t = let p = both (leb low v) (leb v high) t in (leb→le low v (p .0), leb→le v high (p .1))
 
 -- ---- one check after another
 
@@ -94,6 +105,22 @@ unfolding rangeCheck
 size-rangeCheck n values f h =
     firstOf-all n (λ i. require (inRange (getD values i (pos 0))) (f i))
     (λ i l. require-met (inRange (getD values i (pos 0))) (f i) (size-inRange (getD values i (pos 0)) (h i l)))
+
+-- a scan that has met no offender before i, whatever refuses offenders
+abbrev pub NoneOut : ℕ → List ℤ → Type 0
+NoneOut i values = (f : ℕ → Refusal) → rangeCheck i values f ≡ none
+
+pub noneOut-more : (i : ℕ) (values : List ℤ) → NoneOut i values → T (inRange (getD values i (pos 0))) → NoneOut (i + 1) values
+unfolding rangeCheck firstOf
+noneOut-more i values p t f =
+    rw (add-one i)
+    (then-none (rangeCheck i values f) (require (inRange (getD values i (pos 0))) (f i)) (p f)
+    ∙ require-met (inRange (getD values i (pos 0))) (f i) t)
+
+pub noneOut-at : (n i : ℕ) (values : List ℤ) → NoneOut i values → i < n → inRange (getD values i (pos 0)) ≡ false
+    → (f : ℕ → Refusal) → rangeCheck n values f ≡ some (f i)
+unfolding rangeCheck require
+noneOut-at n i values p l out f = firstOf-at n i (λ j. require (inRange (getD values j (pos 0))) (f j)) (f i) (p f) l (rw out)
 
 -- ---- answers
 
