@@ -3,3 +3,5 @@ pub mod Checks
 pub mod Rounding
 pub mod Surface
 pub mod TwoScale
+pub mod Levels
+pub mod Distance
