@@ -1,4 +1,5 @@
 pub mod Basis
+pub mod Bytes
 pub mod Checks
 pub mod Rounding
 pub mod Surface
