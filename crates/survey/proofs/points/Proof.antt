@@ -1,0 +1,160 @@
+-- `survey::points` meets its contract. The loop's invariant: no point before i is refused.
+use mathlib.Core.Path.{_≡_, sym, ap, _∙_}
+use mathlib.Core.Bool.{true, false}
+use mathlib.Core.Option.{none, some}
+use mathlib.Core.List.{List}
+use Prim.Native.Nat.{ℕ, _-_, _*_, _≤_, _<_}
+use native.Mathlib.Omega.{arith}
+use borrow.Author.Needs.{needs}
+use borrow.Author.Tests.{le-leb, lt-leb, not-true, not-false}
+use borrow.Author.Count.{below-none, below-more}
+use lib.IntN.{ℤ, pos}
+use lib.ListN.{length, getD}
+use Rattle.machine.specs.Tests.{plain}
+use Rattle.rules.specs.Grid.{inRange, inside}
+use Rattle.rules.specs.Answers.{Refusal, position, range, require, _then_}
+use Rattle.rules.specs.Calls.{pointsCheck}
+use Rattle.rules.specs.Laws.Checks.{firstOf-all, firstOf-at}
+use Rattle.survey.specs.Passed.{pointCheck}
+use Rattle.survey.proofs.points.Statement.{statement}
+use Rattle.survey.proofs.points.Tie as tie
+
+abbrev Inv-loop : tie.InvT-loop
+Inv-loop m n xs ys zs right top i₀ i = (i ≤ length xs) × ((k : ℕ) → k < i → pointCheck 16 m n xs ys zs k ≡ none)
+
+abbrev μ-loop : tie.MeasureT-loop
+μ-loop m n xs ys zs right top i₀ i = length xs - i
+
+-- the height that a turn reads
+abbrev height : tie.After-in-range Inv-loop μ-loop → ℤ
+height c =
+    let p = c .before .before .before .before .before .before .before in
+    getD (p .before .before .before .args .zs .now) (p .loop .i) (pos 0)
+
+-- in_range was handed its bits, read back
+height-tested : (c : tie.After-in-range Inv-loop μ-loop) → c .in-range .result ≡ inRange (height c)
+height-tested c = c .in-range .ensures ∙ ap inRange (plain (height c) (c .before .in-range-arg .given))
+
+module _ (m n : ℕ) (xs ys : List ℕ) (zs : List ℤ) (i : ℕ) where
+  past-right : 16 * m < getD xs i 0 → pointCheck 16 m n xs ys zs i ≡ some (position i)
+  unfolding pointCheck require _then_ inside
+  past-right x = simp (lt-leb _ _ x)
+
+  past-top : getD xs i 0 ≤ 16 * m → 16 * n < getD ys i 0 → pointCheck 16 m n xs ys zs i ≡ some (position i)
+  unfolding pointCheck require _then_ inside
+  past-top x y = simp (le-leb _ _ x, lt-leb _ _ y)
+
+  out : getD xs i 0 ≤ 16 * m → getD ys i 0 ≤ 16 * n → inRange (getD zs i (pos 0)) ≡ false → pointCheck 16 m n xs ys zs i ≡ some (range i)
+  unfolding pointCheck require _then_ inside
+  out x y z = simp (le-leb _ _ x, le-leb _ _ y, z)
+
+  fine : getD xs i 0 ≤ 16 * m → getD ys i 0 ≤ 16 * n → inRange (getD zs i (pos 0)) ≡ true → pointCheck 16 m n xs ys zs i ≡ none
+  unfolding pointCheck require _then_ inside
+  fine x y z = simp (le-leb _ _ x, le-leb _ _ y, z)
+
+  -- point i is the first that is refused
+  first : (r : Refusal) → ((k : ℕ) → k < i → pointCheck 16 m n xs ys zs k ≡ none) → i < length xs → pointCheck 16 m n xs ys zs i ≡ some r
+      → some r ≡ pointsCheck 16 m n xs ys zs
+  unfolding pointsCheck pointCheck
+  first r before l e = sym (firstOf-at (length xs) i (pointCheck 16 m n xs ys zs) r (firstOf-all i (pointCheck 16 m n xs ys zs) before) l e)
+
+mul-right : tie.Need-mul-right Inv-loop μ-loop
+mul-right c = omega arith
+
+mul-top : tie.Need-mul-top Inv-loop μ-loop
+mul-top c = omega arith
+
+loop-holds : tie.Need-loop-holds Inv-loop μ-loop
+loop-holds c = (omega arith, below-none _)
+
+mul-if1 : tie.Need-mul-if1 Inv-loop μ-loop
+mul-if1 c = omega arith
+
+shared-slice-read-if1 : tie.Need-shared-slice-read-if1 Inv-loop μ-loop
+shared-slice-read-if1 c = omega arith
+
+cast-if1 : tie.Need-cast-if1 Inv-loop μ-loop
+cast-if1 c = omega (arith, c .shared-slice-known3 .given (c .before .before .loop .i))
+
+returns : tie.Need-returns Inv-loop μ-loop
+returns c =
+    let p = c .before .before .before in
+    first _ _ _ _ _ _ _ (p .loop .inv .1) (c .before .before .loop-test .taken) (past-right _ _ _ _ _ _ (c .if1 .taken))
+
+mul-if2 : tie.Need-mul-if2 Inv-loop μ-loop
+mul-if2 c = omega arith
+
+shared-slice-read-if2 : tie.Need-shared-slice-read-if2 Inv-loop μ-loop
+shared-slice-read-if2 c = omega arith
+
+cast-if2 : tie.Need-cast-if2 Inv-loop μ-loop
+cast-if2 c = omega (arith, c .shared-slice-known4 .given (c .before .before .before .before .loop .i))
+
+returns-2 : tie.Need-returns-2 Inv-loop μ-loop
+returns-2 c =
+    let p = c .before .before .before .before .before in
+    first _ _ _ _ _ _ _ (p .loop .inv .1) (c .before .before .before .before .loop-test .taken)
+    (past-top _ _ _ _ _ _ (c .before .before .if1 .left) (c .if2 .taken))
+
+mul-in-range : tie.Need-mul-in-range Inv-loop μ-loop
+mul-in-range c = omega arith
+
+shared-slice-copy-out-in-range : tie.Need-shared-slice-copy-out-in-range Inv-loop μ-loop
+shared-slice-copy-out-in-range c = omega arith
+
+in-range-requires : tie.Need-in-range-requires Inv-loop μ-loop
+in-range-requires c κs = search needs
+
+returns-3 : tie.Need-returns-3 Inv-loop μ-loop
+returns-3 c =
+    let q = c .before .before .before in
+    let p = q .before .before .before .before .before in
+    first _ _ _ _ _ _ _ (p .loop .inv .1) (q .before .before .before .before .loop-test .taken)
+    (out _ _ _ _ _ _ (q .before .before .if1 .left) (q .if2 .left) (sym (height-tested (c .before)) ∙ not-true _ (c .if3 .taken)))
+
+add-i : tie.Need-add-i Inv-loop μ-loop
+add-i c = omega arith
+
+loop-less : tie.Need-loop-less Inv-loop μ-loop
+loop-less c = omega arith
+
+loop-again : tie.Need-loop-again Inv-loop μ-loop
+loop-again c =
+    let q = c .before .before .before in
+    let p = q .before .before .before .before .before in (
+      omega arith,
+      below-more _ _ (p .loop .inv .1) (fine _ _ _ _ _ _ (q .before .before .if1 .left) (q .if2 .left) (sym (height-tested (c .before)) ∙ not-false _ (c .if3 .left))),
+    )
+
+returns-4 : tie.Need-returns-4 Inv-loop μ-loop
+unfolding pointsCheck pointCheck
+returns-4 c =
+    let p = c .before in
+    let last : length (p .before .before .before .args .xs .now) ≡ p .loop .i = omega arith in
+    rw last (sym (firstOf-all _ _ (p .loop .inv .1)))
+
+pub points-spec : {M : Type 1} → statement M
+points-spec =
+    tie.close
+    (tie.spec
+    Inv-loop
+    μ-loop
+    mul-right
+    mul-top
+    loop-holds
+    mul-if1
+    shared-slice-read-if1
+    cast-if1
+    returns
+    mul-if2
+    shared-slice-read-if2
+    cast-if2
+    returns-2
+    mul-in-range
+    shared-slice-copy-out-in-range
+    in-range-requires
+    returns-3
+    add-i
+    loop-less
+    loop-again
+    returns-4)
