@@ -5,9 +5,9 @@ use Prim.Native.Nat.{ℕ, zero, suc, _+_, _-_, _≤_, _<_}
 use native.Mathlib.Numerals.{add-one}
 use native.Mathlib.Omega.{arith}
 use native.Mathlib.Decide.{decLt}
-use native.Mathlib.Nat.{not-suc-le-zero, add-zero, add-suc}
+use native.Mathlib.Nat.{not-suc-le-zero, add-zero, zero-add, add-suc, add-assoc}
 use lib.ListN.{length, getD, take, drop, set, length-append, length-take, length-drop, drop-of-length-le, List·getD-append}
-use lib.Seq.{getD-at, getD-append-add, getD-drop, drop-cons, set-at, take-at, drop-at, drop-drop, take-append-seam, drop-append-add}
+use lib.Seq.{take-suc, getD-at, getD-append-add, getD-drop, drop-cons, set-at, take-at, drop-at, drop-drop, take-append-seam, drop-append-add, sets, sets-eq}
 
 module _ {ℓ} {A : Type ℓ} where
   -- f 0, f 1, .. f (n - 1)
@@ -54,6 +54,12 @@ module _ {ℓ} {A : Type ℓ} where
       rw (add-suc n k)
       (ap (λ l. l ++ (f (n + k) ∷ [])) (tabulate-add n k f) ∙ append-assoc (tabulate n f) (tabulate k (λ i. f (n + i))) (f (n + k) ∷ []))
 
+  -- the first entries of a list
+  pub tabulate-take : (n : ℕ) (l : List A) (d : A) → n ≤ length l → tabulate n (λ i. getD l i d) ≡ take n l
+  unfolding tabulate
+  tabulate-take zero l d h = refl
+  tabulate-take (suc n) l d h = ap (λ r. r ++ (getD l n d ∷ [])) (tabulate-take n l d (omega arith)) ∙ sym (take-suc l n d h)
+
   -- ---- a result over a slice
 
   pub length-over : (r d : List A) → length r ≤ length d → length (over r d) ≡ length d
@@ -91,6 +97,14 @@ module _ {ℓ} {A : Type ℓ} where
       ∙ sym (append-assoc (tabulate i f) (f i ∷ []) (drop (suc i) d))
       ∙ sym (over-length (suc i) (tabulate (suc i) f) d (length-tabulate (suc i) f))
       ∙ ap (λ k. over (tabulate k f) d) (sym (add-one i))
+
+  -- the same of a slice and a value that are known to be these
+  pub fill-store : (i : ℕ) (f : ℕ → A) (d : List A) (z : A) {l : List A} {v : A} → i < length d → l ≡ over (tabulate i f) d → v ≡ f i
+      → set l i v ≡ over (tabulate (i + 1) f) d
+  fill-store i f d z h p q = ap₂ (λ l v. set l i v) p q ∙ fill-more i f d z h
+
+  pub length-filled : (i : ℕ) (f : ℕ → A) (d : List A) {l : List A} → i ≤ length d → l ≡ over (tabulate i f) d → length l ≡ length d
+  length-filled i f d h p = ap length p ∙ length-over (tabulate i f) d (rw (length-tabulate i f) h)
 
   -- what the next k entries, written to a part of their own, make of a slice that is filled up to it
   pub fill-part : (n k : ℕ) (f : ℕ → A) (d : List A) → n + k ≤ length d
@@ -131,3 +145,41 @@ module _ {ℓ} {A : Type ℓ} where
   pub length-laid : (n : ℕ) (r d : List A) → n + length r ≤ length d → length (laid n r d) ≡ length d
   unfolding laid
   length-laid n r d h = simp (length-append, length-take, length-drop) (omega arith)
+
+  -- entries stored one after another from n on are laid there
+  pub laid-sets : (n : ℕ) (r d : List A) → n + length r ≤ length d → sets d n r ≡ laid n r d
+  unfolding laid
+  laid-sets n r d h = sets-eq r d n h ∙ append-assoc (take n d) r (drop (n + length r) d)
+
+  -- what is laid at the start is laid over
+  pub laid-front : (r d : List A) → laid 0 r d ≡ over r d
+  unfolding laid over
+  laid-front r d = rw (zero-add (length r)) refl
+
+  -- the next entries, laid where laid ones end, make them longer
+  pub laid-more : (n : ℕ) (r next d : List A) → n ≤ length d → laid (n + length r) next (laid n r d) ≡ laid n (r ++ next) d
+  unfolding laid
+  laid-more n r next d h =
+      ap (λ l. take k l ++ (next ++ drop (k + length next) l)) (sym (append-assoc (take n d) r rest))
+      ∙ rw (take-at front rest k e, past, length-append r next, ← add-assoc n (length r) (length next), append-assoc r next (drop (k + length next) d))
+      (append-assoc (take n d) r (next ++ drop (k + length next) d))
+    where
+      k : ℕ
+      k = n + length r
+
+      front : List A
+      front = take n d ++ r
+
+      rest : List A
+      rest = drop k d
+
+      e : length front ≡ k
+      e = simp (length-append, length-take) (omega arith)
+
+      past : drop (k + length next) (front ++ rest) ≡ drop (k + length next) d
+      past = sym (drop-drop (length next) k (front ++ rest)) ∙ ap (drop (length next)) (drop-at front rest k e) ∙ drop-drop (length next) k d
+
+  -- a store where laid entries end is one entry more
+  pub set-laid : (n : ℕ) (r d : List A) (v : A) → n + length r < length d → set (laid n r d) (n + length r) v ≡ laid n (r ++ (v ∷ [])) d
+  set-laid n r d v h =
+      laid-sets (n + length r) (v ∷ []) (laid n r d) (rw (length-laid n r d (omega arith)) (omega arith)) ∙ laid-more n r (v ∷ []) d (omega arith)

@@ -2,11 +2,12 @@
 -- by the file's entries.
 use mathlib.Core.Path.{_≡_, refl, ap, _∙_}
 use mathlib.Core.Bool.{Bool, true, false, cond}
-use mathlib.Core.List.{List, [], _∷_}
+use mathlib.Core.List.{List, [], _∷_, _++_}
 use Prim.Native.Nat.{ℕ, zero, suc, _+_, _-_, _*_, _/_, _%_, _^_, _<_}
-use native.Mathlib.Nat.{pow-suc}
+use native.Mathlib.Nat.{zero-add, suc-add, pow-suc, pow-succ', one-le-pow, div-one, div-div-eq-div-mul}
 use native.Mathlib.Omega.{arith}
 use borrow.Author.Tests.{lt-ltb, le-ltb}
+use lib.Arith.{mod-mul}
 use lib.Dec.{ltb, lit<}
 use lib.IntN.{ℤ, pos, negsuc}
 use lib.ListN.{length, getD, take, drop}
@@ -53,6 +54,23 @@ bytesOf-numberOf (b ∷ bs) h =
     let high : (b + 256 * numberOf bs) / 256 ≡ numberOf bs = omega (arith, h 0) in
     rw (low, high) (ap (λ l. b ∷ l) (bytesOf-numberOf bs (λ i. h (suc i))))
 
+-- the bytes of a number, some and then the others
+pub bytesOf-split : (w u v : ℕ) → bytesOf (w + u) v ≡ bytesOf w v ++ bytesOf u (v / 256 ^ w)
+unfolding bytesOf
+bytesOf-split zero u v = rw (zero-add u, div-one v)
+bytesOf-split (suc w) u v =
+    rw (suc-add w u, pow-succ' 256 w, ← div-div-eq-div-mul v 256 (256 ^ w)) (ap (λ l. v % 256 ∷ l) (bytesOf-split w u (v / 256)))
+
+-- the bytes above the lowest w do not matter to these
+pub bytesOf-low : (w v : ℕ) → bytesOf w (v % 256 ^ w) ≡ bytesOf w v
+unfolding bytesOf
+bytesOf-low zero v = refl
+bytesOf-low (suc w) v =
+    let e : v % 256 ^ suc w ≡ (v / 256 % 256 ^ w) * 256 + v % 256 = ap (λ n. v % n) (pow-suc 256 w) ∙ mod-mul v (one-le-pow w 256 (lit< tt)) (lit< tt) in
+    let low : (v % 256 ^ suc w) % 256 ≡ v % 256 = omega arith in
+    let high : (v % 256 ^ suc w) / 256 ≡ v / 256 % 256 ^ w = omega arith in
+    rw (low, high) (ap (λ l. v % 256 ∷ l) (bytesOf-low w (v / 256)))
+
 -- ---- two's complement
 
 pub complement-below : (w : ℕ) (z : ℤ) → Signed w z → complement w z < 256 ^ w
@@ -86,15 +104,15 @@ unfolding numberOf
 numberOf-more w [] = rw (take-nil w) refl
 numberOf-more w (b ∷ bs) = refl
 
-from : (w : ℕ) (file : List ℕ) (b k : ℕ) → numberAt w file (b + k) ≡ entries w file b k
+pub numberAt-past : (w : ℕ) (file : List ℕ) (b k : ℕ) → numberAt w file (b + k) ≡ entries w file b k
 unfolding numberOf numberAt entries
-from zero file b k = refl
-from (suc w) file b k =
+numberAt-past zero file b k = refl
+numberAt-past (suc w) file b k =
     let next : b + k + 1 ≡ b + suc k = omega arith in
     let here : b + k + 0 ≡ b + k = omega arith in
     numberOf-more w (drop (b + k) file)
     ∙ rw (getD-drop (b + k) file 0 0, drop-drop 1 (b + k) file, next, here)
-    (ap (λ n. getD file (b + k) 0 + 256 * n) (from w file b (suc k)))
+    (ap (λ n. getD file (b + k) 0 + 256 * n) (numberAt-past w file b (suc k)))
 
 pub numberAt-entries : (w : ℕ) (file : List ℕ) (b : ℕ) → numberAt w file b ≡ entries w file b 0
-numberAt-entries w file b = let e : b ≡ b + 0 = omega arith in ap (numberAt w file) e ∙ from w file b 0
+numberAt-entries w file b = let e : b ≡ b + 0 = omega arith in ap (numberAt w file) e ∙ numberAt-past w file b 0

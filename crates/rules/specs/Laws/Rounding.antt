@@ -1,8 +1,8 @@
 -- The laws of floor and near, for any divisor d ≥ 1: their bounds, that these fix them, and what follows from near's distance alone.
-use mathlib.Core.Path.{_≡_, ap, subst}
+use mathlib.Core.Path.{_≡_, sym, ap, subst}
 use mathlib.Core.Logic.{_↔_, inl, inr}
 use Prim.Native.Nat.{ℕ, _+_, _*_, _≤_, _<_, zero-le}
-use native.Mathlib.Nat.{div-add-mod, mod-lt, le-of-mul-le-mul-left}
+use native.Mathlib.Nat.{div-add-mod, mod-lt, div-div-eq-div-mul, le-of-mul-le-mul-left}
 use native.Mathlib.Omega.{arith}
 use lib.IntN.{ℤ, pos, negsuc, natAbs, _+ℤ_, _-ℤ_, _*ℤ_, +ℤ-idr, +ℤ-invr, *ℤ-comm}
 use lib.Signed.{_≤ℤ_, _<ℤ_, ≤ℤ-refl}
@@ -125,3 +125,26 @@ near-exact-right n d h = rw (*ℤ-comm n (pos d)) (near-exact n d h)
 
 pub near-within : (v : ℤ) (d B : ℕ) → 0 < d → natAbs v ≤ d * B → natAbs (near v d) ≤ B
 near-within v d B h = rounds-within (near-rounds d h) v B
+
+-- ---- how code divides: step by step, and over an even divisor by adding its half
+
+pub floor-floor : (v : ℤ) (a b : ℕ) → floor (floor v a) b ≡ floor v (a * b)
+unfolding floor
+floor-floor (pos n) a b = ap pos (div-div-eq-div-mul n a b)
+floor-floor (negsuc n) a b = ap negsuc (div-div-eq-div-mul n a b)
+
+pub near-even : (v : ℤ) (d : ℕ) → 0 < d → near v (2 * d) ≡ floor (v +ℤ pos d) (2 * d)
+unfolding near
+near-even v d h = sym (floor-unique (pos 2 *ℤ v +ℤ pos (2 * d)) (2 * (2 * d)) n (omega arith) (record { low = low v n (f .low); high = high v n (f .high) }))
+  where
+    n : ℤ
+    n = floor (v +ℤ pos d) (2 * d)
+
+    f : Floored (v +ℤ pos d) (2 * d) n
+    f = floor-bound (v +ℤ pos d) (2 * d) (omega arith)
+
+    low : (v n : ℤ) → (pos (2 * d) *ℤ n) ≤ℤ (v +ℤ pos d) → (pos (2 * (2 * d)) *ℤ n) ≤ℤ (pos 2 *ℤ v +ℤ pos (2 * d))
+    low v n = rw (split v, split n) (simp whole (omega arith))
+
+    high : (v n : ℤ) → (v +ℤ pos d) <ℤ (pos (2 * d) *ℤ (n +ℤ pos 1)) → (pos 2 *ℤ v +ℤ pos (2 * d)) <ℤ (pos (2 * (2 * d)) *ℤ (n +ℤ pos 1))
+    high v n = rw (split v, split n) (simp whole (omega arith))

@@ -2,8 +2,8 @@
 -- them, and the height is within 1 of the surface. With them the laws of a lattice's storage, and the size and the error of refined values.
 use mathlib.Core.Path.{_≡_, sym, ap, ap₂, _∙_, fun-ext}
 use mathlib.Core.List.{List, [], _∷_}
-use Prim.Native.Nat.{ℕ, _+_, _*_, _≤_, _<_}
-use native.Mathlib.Nat.{mul-pos, mul-le-mul-left, mul-le-mul-right, mul-assoc, mul-add-div-right, mul-add-mod-self-right, div-eq-of-lt, mod-eq-of-lt}
+use Prim.Native.Nat.{ℕ, _+_, _*_, _/_, _%_, _≤_, _<_}
+use native.Mathlib.Nat.{mul-pos, mul-le-mul-left, mul-le-mul-right, mul-assoc, mul-comm, mul-add-div-right, mul-add-mod-self-right, div-eq-of-lt, mod-eq-of-lt}
 use native.Mathlib.Omega.{arith}
 use lib.IntN.{ℤ, pos, natAbs, _+ℤ_, _-ℤ_, _*ℤ_, +ℤ-negℤ-cancel, -ℤ-+ℤ-cancel}
 use lib.ListN.{length, drop, List·getD-append}
@@ -11,12 +11,13 @@ use Rattle.algebra.specs.Solver.{var, con, _⊕_, _⊗_, _⊖_, solve}
 use Rattle.algebra.specs.Size.{natAbs-sum, natAbs-product}
 use Rattle.algebra.specs.Table.{over, length-tabulate, getD-tabulate}
 use Rattle.rules.specs.Rounding.{near}
-use Rattle.rules.specs.Grid.{Lattice, controls, control, store}
+use Rattle.rules.specs.Grid.{Lattice, limit, controls, control, store}
 use Rattle.rules.specs.Surface.{denominator, along, surface, height}
 use Rattle.rules.specs.Refinement.{finer2, refined}
 use Rattle.rules.specs.Laws.Rounding.{near-distance, near-within}
 use Rattle.rules.specs.Laws.Basis.{along-sum, along-scale, along-reads, along-bound}
 use Rattle.rules.specs.Laws.TwoScale.{finer2-size}
+use Rattle.rules.specs.Laws.Checks.{AllInRange}
 
 -- ---- what a law may ask of lattices and positions
 
@@ -149,16 +150,20 @@ unfolding store
 length-store m n f = length-tabulate (controls m n) _
 
 -- the place of a control value among those stored
-place-below : (m n s t : ℕ) → s < m + 3 → t < n + 3 → t * (m + 3) + s < controls m n
+pub place-below : (m n s t : ℕ) → s < m + 3 → t < n + 3 → t * (m + 3) + s < controls m n
 unfolding controls
 place-below m n s t h k = omega (arith, mul-le-mul-right (m + 3) k)
+
+-- what a lattice has at the column and the row of that place
+pub at-place : (m : ℕ) (f : Lattice) (s t : ℕ) → s < m + 3 → f ((t * (m + 3) + s) % (m + 3)) ((t * (m + 3) + s) / (m + 3)) ≡ f s t
+at-place m f s t h =
+    ap₂ f (mul-add-mod-self-right t (m + 3) s ∙ mod-eq-of-lt h) (mul-add-div-right {m = m + 3} (omega arith) t s ∙ ap (λ (q : ℕ). t + q) (div-eq-of-lt h) ∙ omega arith)
 
 pub control-store : (m n : ℕ) (f : Lattice) → Same m n (control m (store m n f)) f
 unfolding control store
 control-store m n f = record {
   same = λ s t h k.
-      getD-tabulate (controls m n) _ (t * (m + 3) + s) (pos 0) (place-below m n s t h k)
-      ∙ ap₂ f (mul-add-mod-self-right t (m + 3) s ∙ mod-eq-of-lt h) (mul-add-div-right {m = m + 3} (omega arith) t s ∙ ap (λ (q : ℕ). t + q) (div-eq-of-lt h) ∙ omega arith);
+      getD-tabulate (controls m n) _ (t * (m + 3) + s) (pos 0) (place-below m n s t h k) ∙ at-place m f s t h;
 }
 
 pub control-over : (m n : ℕ) (stored rest : List ℤ) → length stored ≡ controls m n → Same m n (control m (over stored rest)) (control m stored)
@@ -167,6 +172,15 @@ control-over m n stored rest e = record {
   same = λ s t h k.
       List·getD-append stored (drop (length stored) rest) (pos 0) (t * (m + 3) + s) (rw e (place-below m n s t h k));
 }
+
+-- the control values of the first rows are in range where what is stored of these rows is
+pub control-size : (m rows s t : ℕ) (stored : List ℤ) → AllInRange (rows * (m + 3)) stored → s < m + 3 → t < rows → natAbs (control m stored s t) ≤ limit
+unfolding control
+control-size m rows s t stored a h k = a (t * (m + 3) + s) (omega (arith, mul-le-mul-right (m + 3) k))
+
+pub control-within : (m n : ℕ) (stored : List ℤ) → AllInRange (controls m n) stored → Bounded m n (control m stored) limit
+unfolding controls
+control-within m n stored a = record { size = λ s t. control-size m (n + 3) s t stored (rw (mul-comm (n + 3) (m + 3)) a) }
 
 -- ---- refined values
 

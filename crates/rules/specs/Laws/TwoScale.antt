@@ -36,6 +36,14 @@ finer-even f i = even-place f (2 * i) i (i + 1) refl refl
 pub finer-odd : (f : ℕ → ℤ) (i : ℕ) → finer f (2 * i + 1) ≡ f i +ℤ pos 6 *ℤ f (i + 1) +ℤ f (i + 2)
 finer-odd f i = odd-place f (2 * i + 1) i (i + 1) (i + 2) refl refl refl
 
+-- by the parity and the first old place that it weighs
+pub finer-at : (p : ℕ) (f : ℕ → ℤ) (i : ℕ) → p < 2 → finer f (2 * i + p) ≡ masked p f i
+unfolding finer
+finer-at p f i h =
+    let r : (2 * i + p) % 2 ≡ p = omega arith in
+    let q : (2 * i + p) / 2 ≡ i = omega arith in
+    rw (r, q)
+
 -- ---- it is linear
 
 -- the two masks, for the solver: v k quotes the value k places on
@@ -87,7 +95,7 @@ finer2-reads m n f g h s t ls lt =
 
 -- ---- how large it is
 
-masked-size : (p : ℕ) (f : ℕ → ℤ) (c B : ℕ) → ((r : ℕ) → r ≤ c + 1 + p → natAbs (f r) ≤ B) → natAbs (masked p f c) ≤ 8 * B
+pub masked-size : (p : ℕ) (f : ℕ → ℤ) (c B : ℕ) → ((r : ℕ) → r ≤ c + 1 + p → natAbs (f r) ≤ B) → natAbs (masked p f c) ≤ 8 * B
 unfolding masked
 masked-size zero f c B h =
     let x = f c in
@@ -193,20 +201,28 @@ two-scale U m x f = go (halves U m x)
 
 -- ---- two axes
 
-masked-along : (U m x p : ℕ) (f : Lattice) (c : ℕ) → along U m x (λ s. masked p (f s) c) ≡ masked p (λ t. along U m x (λ s. f s t)) c
-unfolding masked
-masked-along U m x zero f c =
-    along-sum U m x (λ s. pos 4 *ℤ f s c) (λ s. pos 4 *ℤ f s (c + 1))
-    ∙ ap₂ _+ℤ_ (along-scale U m x (pos 4) (λ s. f s c)) (along-scale U m x (pos 4) (λ s. f s (c + 1)))
-masked-along U m x (suc p) f c =
-    along-sum U m x (λ s. f s c +ℤ pos 6 *ℤ f s (c + 1)) (λ s. f s (c + 2))
-    ∙ ap (λ z. z +ℤ along U m x (λ s. f s (c + 2)))
-    (along-sum U m x (λ s. f s c) (λ s. pos 6 *ℤ f s (c + 1)) ∙ ap (λ z. along U m x (λ s. f s c) +ℤ z) (along-scale U m x (pos 6) (λ s. f s (c + 1))))
+-- a mask along one axis commutes with what is linear along the other
+module _ (L : (ℕ → ℤ) → ℤ)
+    (sum : (f g : ℕ → ℤ) → L (λ s. f s +ℤ g s) ≡ L f +ℤ L g)
+    (multiple : (k : ℤ) (f : ℕ → ℤ) → L (λ s. k *ℤ f s) ≡ k *ℤ L f) where
+  masked-linear : (p : ℕ) (f : Lattice) (c : ℕ) → L (λ s. masked p (f s) c) ≡ masked p (λ t. L (λ s. f s t)) c
+  unfolding masked
+  masked-linear zero f c =
+      sum (λ s. pos 4 *ℤ f s c) (λ s. pos 4 *ℤ f s (c + 1)) ∙ ap₂ _+ℤ_ (multiple (pos 4) (λ s. f s c)) (multiple (pos 4) (λ s. f s (c + 1)))
+  masked-linear (suc p) f c =
+      sum (λ s. f s c +ℤ pos 6 *ℤ f s (c + 1)) (λ s. f s (c + 2))
+      ∙ ap (λ z. z +ℤ L (λ s. f s (c + 2)))
+      (sum (λ s. f s c) (λ s. pos 6 *ℤ f s (c + 1)) ∙ ap (λ z. L (λ s. f s c) +ℤ z) (multiple (pos 6) (λ s. f s (c + 1))))
 
--- summing along one axis and refining along the other commute
+-- so does summing along it
 pub finer-along : (U m x : ℕ) (f : Lattice) (t : ℕ) → along U m x (λ s. finer (f s) t) ≡ finer (λ r. along U m x (λ s. f s r)) t
 unfolding finer
-finer-along U m x f t = masked-along U m x (t % 2) f (t / 2)
+finer-along U m x f t = masked-linear (along U m x) (along-sum U m x) (along-scale U m x) (t % 2) f (t / 2)
+
+-- and refining along it: down the columns first is along the rows first
+pub finer-swap : (f : Lattice) (s t : ℕ) → finer (λ q. finer (f q) t) s ≡ finer2 f s t
+unfolding finer finer2
+finer-swap f s t = masked-linear (λ g. finer g s) (λ g h. finer-sum g h s) (λ k g. finer-multiple k g s) (t % 2) f (t / 2)
 
 pub two-scale2 : (U m n : ℕ) (f : Lattice) (x y : ℕ) → surface (2 * U) m n f x y ≡ surface U (2 * m) (2 * n) (finer2 f) x y
 unfolding surface finer2
