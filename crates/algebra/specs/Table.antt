@@ -7,7 +7,7 @@ use native.Mathlib.Omega.{arith}
 use native.Mathlib.Decide.{decLt}
 use native.Mathlib.Nat.{not-suc-le-zero, add-zero, zero-add, add-suc, add-assoc}
 use lib.ListN.{length, getD, take, drop, set, length-append, length-take, length-drop, drop-of-length-le, List·getD-append}
-use lib.Seq.{take-suc, getD-at, getD-append-add, getD-drop, drop-cons, set-at, take-at, drop-at, drop-drop, take-append-seam, drop-append-add, sets, sets-eq}
+use lib.Seq.{take-suc, getD-at, getD-append-add, getD-take, getD-drop, drop-cons, set-at, take-at, drop-at, drop-drop, take-append-seam, drop-append-add, sets, sets-eq}
 
 module _ {ℓ} {A : Type ℓ} where
   -- f 0, f 1, .. f (n - 1)
@@ -27,6 +27,10 @@ module _ {ℓ} {A : Type ℓ} where
   -- the slice d with the list r over its places from n on
   unfoldable pub laid : ℕ → List A → List A → List A
   laid n r d = take n d ++ (r ++ drop (n + length r) d)
+
+  -- the k entries of d from n on
+  unfoldable pub area : ℕ → ℕ → List A → List A
+  area n k d = take k (drop n d)
 
   pub length-tabulate : (n : ℕ) (f : ℕ → A) → length (tabulate n f) ≡ n
   unfolding tabulate
@@ -183,3 +187,13 @@ module _ {ℓ} {A : Type ℓ} where
   pub set-laid : (n : ℕ) (r d : List A) (v : A) → n + length r < length d → set (laid n r d) (n + length r) v ≡ laid n (r ++ (v ∷ [])) d
   set-laid n r d v h =
       laid-sets (n + length r) (v ∷ []) (laid n r d) (rw (length-laid n r d (omega arith)) (omega arith)) ∙ laid-more n r (v ∷ []) d (omega arith)
+
+  -- ---- areas of a slice
+
+  pub length-area : (n k : ℕ) (d : List A) → n + k ≤ length d → length (area n k d) ≡ k
+  unfolding area
+  length-area n k d h = simp (length-take, length-drop) (omega arith)
+
+  pub getD-area : (n k : ℕ) (d : List A) (i : ℕ) (z : A) → i < k → getD (area n k d) i z ≡ getD d (n + i) z
+  unfolding area
+  getD-area n k d i z h = getD-take k (drop n d) i z h ∙ getD-drop n d i z

@@ -6,3 +6,5 @@ pub mod Surface
 pub mod TwoScale
 pub mod Levels
 pub mod Distance
+pub mod LatticeFile
+pub mod PointFile
