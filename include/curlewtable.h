@@ -1,0 +1,138 @@
+/*
+ * Curlewtable: multilevel B-spline ground lattices for storm-drain models.
+ *
+ * Every call ends, whatever its arguments, reads and writes only inside the slices that it is lent, and answers with a number:
+ * 0 where it is accepted, else the number of the refusal (see below) with its place. On a refusal the other fields of the
+ * answer are 0.
+ *
+ * A slice is a pointer and a length in elements. What the host owes for each:
+ *   - the pointer is aligned for its type, and the whole length is readable, and writable where it is not const;
+ *     where the length is 0 the pointer may be NULL;
+ *   - a slice that is written overlaps no other slice of the call;
+ *   - the memory is initialised. f64 scratch may hold NaN.
+ * There is no global state: calls on separate slices may run side by side.
+ *
+ * Heights, control values and residuals are whole micrometres from -4,000,000,000 to 4,000,000,000 ("in range").
+ * A lattice of m by n cells has (m+3)(n+3) control values, i from -1 to m+1, j from -1 to n+1, stored at (j+1)(m+3)+(i+1).
+ *
+ * Refusals:
+ *    1  cells a side outside 1..16 (fit, point writer), 1..256 (refine), 1..512 (others)        place 0
+ *    2  h above 5, or U not 16, 32, 64, 128, 256 or 512                                         place 0
+ *    3  x, y, z lists differ in length, or over 65,535 points                                   place 0
+ *    4  a lent slice is too short                                                               place 0
+ *    5  position outside                                    the point's or node's index, 0 for a single height
+ *    6  height or control value out of range                                                    its index
+ *    7  a quotient, a residual or a sum out of range in a level of the fit                      the level
+ *    8  step above 8,192, or columns or rows above 8,193                                        place 0
+ *    9  record incomplete                                                          the byte of the record's start
+ *   10  wrong mark                                                                 the byte of the record's start
+ *   11  field not allowed                                                                 the byte of the field
+ *   12  bytes after the end                                                               the first such byte
+ * A refusal leaves every slice as it was, but for 7: the scratch prefixes are then zero, as after an acceptance, and lattice
+ * and residuals are as they were. The order of the checks is 1, 2, 3, 8, 4, then 5 and 6; points in list order, 5 before 6 in a
+ * point, elsewhere the whole lattice (6) before positions (5); readers record by record, 9, 10, 11, then 12, then 4.
+ */
+#ifndef CURLEWTABLE_H
+#define CURLEWTABLE_H
+
+#include <stddef.h>
+#include <stdint.h>
+
+#ifdef __cplusplus
+extern "C" {
+#endif
+
+/* ---- sizes, in elements */
+
+/* control values of m by n cells */
+#define CURLEW_CONTROLS(m, n) (((size_t)(m) + 3) * ((size_t)(n) + 3))
+/* cells a side of level h, of m0 coarsest cells */
+#define CURLEW_CELLS(m0, h) ((size_t)(m0) << (h))
+/* K of a fit: control values of level h */
+#define CURLEW_FIT_LATTICE(m0, n0, h) CURLEW_CONTROLS(CURLEW_CELLS(m0, h), CURLEW_CELLS(n0, h))
+/* whole scratch, 3K + p, and f64 scratch, 2K, of a fit of p points */
+#define CURLEW_FIT_WHOLE(m0, n0, h, p) (3 * CURLEW_FIT_LATTICE(m0, n0, h) + (size_t)(p))
+#define CURLEW_FIT_FLOATS(m0, n0, h) (2 * CURLEW_FIT_LATTICE(m0, n0, h))
+/* bytes of a lattice file, and of a point file */
+#define CURLEW_LATTICE_FILE(m, n) (10 + ((size_t)(n) + 3) * (4 + 8 * ((size_t)(m) + 3)))
+#define CURLEW_POINT_FILE(p) (8 + 14 * (size_t)(p))
+
+/* ---- answers */
+
+/* fit, refine, read_lattice: cell counts */
+typedef struct {
+    size_t number, place;
+    size_t m, n;
+} curlew_cells;
+
+/* height_at: the height */
+typedef struct {
+    size_t number, place;
+    int64_t height;
+} curlew_height;
+
+/* raster: nodes written; write_lattice, write_points: bytes written */
+typedef struct {
+    size_t number, place;
+    size_t count;
+} curlew_count;
+
+/* read_points: the header's fields */
+typedef struct {
+    size_t number, place;
+    size_t m0, n0, h, points;
+} curlew_header;
+
+/* ---- the surface engine */
+
+/*
+ * Fits one lattice to p points: m0 by n0 coarsest cells (1..16), levels 0 to h (0..5). Positions run 0 to 16 * m0 * 2^h along x,
+ * likewise y with n0. Lends: lattice K, residual p, whole scratch 3K + p, f64 scratch 2K (see the macros); longer is fine.
+ * Accepted: the cell counts of level h; the lattice and the residuals in their first K and p places. The lattice is read with U = 16.
+ * At every position of the grid the height is then accepted, and within h/2 + 1 micrometres of the exact sum of the level surfaces.
+ * After acceptance or refusal 7 the named scratch prefixes are zero. Places past the prefixes never change. Refuses 1 to 7.
+ */
+curlew_cells curlew_fit(size_t m0, size_t n0, size_t h, const uint16_t *x, size_t x_len, const uint16_t *y, size_t y_len,
+                        const int64_t *z, size_t z_len, int64_t *lattice, size_t lattice_len, int64_t *residual, size_t residual_len,
+                        int64_t *whole, size_t whole_len, double *floats, size_t floats_len);
+
+/*
+ * The height at (x, y) of a lattice of m by n cells (1..512) of unit positions each; x from 0 to unit * m, y from 0 to unit * n.
+ * It is in range, and within 1 micrometre of the exact surface. Refuses 1, 2, 4, 6, 5. Each call scans the whole lattice: for many
+ * heights use a raster.
+ */
+curlew_height curlew_height_at(size_t m, size_t n, size_t unit, const int64_t *lattice, size_t lattice_len, size_t x, size_t y);
+
+/*
+ * The refinement of m by n cells (1..256) to 2m by 2n: writes the (2m+3)(2n+3) new control values. Refuses 1, 4, 6.
+ */
+curlew_cells curlew_refine(size_t m, size_t n, const int64_t *lattice, size_t lattice_len, int64_t *output, size_t output_len);
+
+/*
+ * The heights of columns * rows nodes from (x0, y0) at one step, row by row. Step 0 stands for 16. No columns or no rows writes
+ * nothing. Answers the nodes written. Refuses 1, 2, 8, 4, 6, 5 (the first node outside, row * columns + column).
+ */
+curlew_count curlew_raster(size_t m, size_t n, size_t unit, const int64_t *lattice, size_t lattice_len, size_t x0, size_t y0,
+                           size_t step, size_t columns, size_t rows, int64_t *output, size_t output_len);
+
+/* ---- the two files */
+
+/* Reads a lattice file: its cell counts, and (m+3)(n+3) control values. Refuses 9, 10, 11, 12, 4. */
+curlew_cells curlew_read_lattice(const uint8_t *file, size_t file_len, int64_t *output, size_t output_len);
+
+/* Writes a lattice file of CURLEW_LATTICE_FILE(m, n) bytes. Refuses 1, 4, 6. */
+curlew_count curlew_write_lattice(size_t m, size_t n, const int64_t *lattice, size_t lattice_len, uint8_t *output, size_t output_len);
+
+/* Reads a point file: its header, and p places of each list. Refuses 9, 10, 11, 12, 4. */
+curlew_header curlew_read_points(const uint8_t *file, size_t file_len, uint16_t *x, size_t x_len, uint16_t *y, size_t y_len,
+                                 int64_t *z, size_t z_len);
+
+/* Writes a point file of CURLEW_POINT_FILE(p) bytes. Refuses 1, 2, 3, 4, 5, 6. */
+curlew_count curlew_write_points(size_t m0, size_t n0, size_t h, const uint16_t *x, size_t x_len, const uint16_t *y, size_t y_len,
+                                 const int64_t *z, size_t z_len, uint8_t *output, size_t output_len);
+
+#ifdef __cplusplus
+}
+#endif
+
+#endif

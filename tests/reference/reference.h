@@ -1,0 +1,100 @@
+/*
+ * A second implementation of the ground lattice of document 01, in plain C99,
+ * written from document 01's text alone (and the same authors' clarifications
+ * of it). It shares nothing with the product or with its definitions.
+ *
+ * Every call checks its arguments itself, refuses as document 01 says and then
+ * leaves the slices as document 01 says. Any argument may have any value; a
+ * slice must only hold as many places as its length says, and slices that are
+ * written may not overlap any other slice of the call.
+ *
+ * number 0 is an acceptance, with place 0. On a refusal the value fields are 0.
+ */
+#ifndef REFERENCE_H
+#define REFERENCE_H
+
+#include <stddef.h>
+#include <stdint.h>
+
+typedef struct { uint64_t number, place, m, n; } ref_cells;
+typedef struct { uint64_t number, place; int64_t height; } ref_height;
+typedef struct { uint64_t number, place, count; } ref_count;
+typedef struct { uint64_t number, place, m0, n0, h, points; } ref_header;
+
+/* near(v/d) for d of at least 1, at any v; document 01 has no other divisors, and they give 0. */
+int64_t ref_near(int64_t v, int64_t d);
+
+ref_cells ref_fit(size_t m0, size_t n0, size_t h,
+                  const uint16_t *x, size_t x_len, const uint16_t *y, size_t y_len,
+                  const int64_t *z, size_t z_len,
+                  int64_t *lattice, size_t lattice_len, int64_t *residual, size_t residual_len,
+                  int64_t *whole, size_t whole_len, double *floats, size_t floats_len);
+
+ref_height ref_height_at(size_t m, size_t n, size_t unit,
+                         const int64_t *lattice, size_t lattice_len, size_t x, size_t y);
+
+ref_cells ref_refine(size_t m, size_t n, const int64_t *lattice, size_t lattice_len,
+                     int64_t *output, size_t output_len);
+
+ref_count ref_raster(size_t m, size_t n, size_t unit, const int64_t *lattice, size_t lattice_len,
+                     size_t x0, size_t y0, size_t step, size_t columns, size_t rows,
+                     int64_t *output, size_t output_len);
+
+ref_cells ref_read_lattice(const uint8_t *file, size_t file_len, int64_t *output, size_t output_len);
+
+ref_count ref_write_lattice(size_t m, size_t n, const int64_t *lattice, size_t lattice_len,
+                            uint8_t *output, size_t output_len);
+
+ref_header ref_read_points(const uint8_t *file, size_t file_len, uint16_t *x, size_t x_len,
+                           uint16_t *y, size_t y_len, int64_t *z, size_t z_len);
+
+ref_count ref_write_points(size_t m0, size_t n0, size_t h,
+                           const uint16_t *x, size_t x_len, const uint16_t *y, size_t y_len,
+                           const int64_t *z, size_t z_len, uint8_t *output, size_t output_len);
+
+/*
+ * The program: standard input to standard output. The output has room for 2,974 bytes;
+ * returns the bytes written.
+ */
+size_t ref_program(const uint8_t *input, size_t input_len, uint8_t *output);
+
+/*
+ * Demand 3 in whole numbers, for tests. Unlike the calls above, the functions below trust
+ * their arguments: an accepted fit's m0, n0 and h, and a position of its grid.
+ */
+__extension__ typedef __int128 ref_wide;
+
+/* Places of level lattice k: (m0 * 2^k + 3)(n0 * 2^k + 3). */
+size_t ref_level_places(size_t m0, size_t n0, size_t k);
+
+/*
+ * The fit again, keeping every level lattice: levels has h + 1 arrays, and array k at least
+ * ref_level_places(m0, n0, k) places. Answer and slices are those of ref_fit. The levels hold
+ * the level lattices on acceptance only; refusals 1 to 6 leave them as they were.
+ */
+ref_cells ref_fit_levels(size_t m0, size_t n0, size_t h,
+                         const uint16_t *x, size_t x_len, const uint16_t *y, size_t y_len,
+                         const int64_t *z, size_t z_len,
+                         int64_t *lattice, size_t lattice_len, int64_t *residual, size_t residual_len,
+                         int64_t *whole, size_t whole_len, double *floats, size_t floats_len,
+                         int64_t *const *levels);
+
+/* The double sum of the exact surface, before its division by 36 * unit^6, for any unit up to 512. */
+ref_wide ref_surface(size_t m, size_t n, size_t unit, const int64_t *lattice, size_t x, size_t y);
+
+ref_wide ref_D(size_t h);                                                       /* 36 * (16 * 2^h)^6 */
+ref_wide ref_T(size_t m0, size_t n0, size_t h, int64_t *const *levels, size_t x, size_t y);
+ref_wide ref_V(size_t m0, size_t n0, size_t h, const int64_t *lattice, size_t x, size_t y);
+
+/* D, T and V together. */
+void ref_demand3(size_t m0, size_t n0, size_t h, int64_t *const *levels, const int64_t *lattice,
+                 size_t x, size_t y, ref_wide *d, ref_wide *t, ref_wide *v);
+
+/*
+ * 1 if demand 3 holds of this height answer at this position, else 0: accepted,
+ * |2 D height - 2 T| at most (h + 2) D, and V = T in the equal case.
+ */
+int ref_demand3_holds(size_t m0, size_t n0, size_t h, int64_t *const *levels, const int64_t *lattice,
+                      size_t x, size_t y, ref_height answer);
+
+#endif
