@@ -1,0 +1,63 @@
+-- What an accepted height promises beyond its equation with the rules: it is in range, and within one micrometre of the exact surface.
+use mathlib.Core.Path.{_≡_, sym, _∙_}
+use mathlib.Core.Bool.{_&&_, _||_}
+use mathlib.Core.Option.{none}
+use mathlib.Core.List.{List}
+use Prim.Native.Nat.{ℕ, zero, suc, _*_, _≤_, _<_}
+use native.Mathlib.Omega.{arith}
+use lib.Dec.{T, leb, eqb, leb→le}
+use lib.IntN.{ℤ, pos, natAbs, _-ℤ_, _*ℤ_}
+use lib.ListN.{length}
+use Rattle.rules.specs.Grid.{limit, inside, controls, control}
+use Rattle.rules.specs.Surface.{surface, height}
+use Rattle.rules.specs.Answers.{Check, require, short, position, unit, _then_, accepted}
+use Rattle.rules.specs.Calls.{cellsCheck, unitCheck, latticeCheck, heightCheck, heightAnswer}
+use Rattle.rules.specs.Laws.Checks.{required, both, then-first, then-rest, answer-none, answer-value}
+use Rattle.rules.specs.Laws.Surface.{Inside, Bounded, full, control-within, height-within, height-distance}
+use Rattle.checks.specs.Passed.{cells-passed, lattice-passed}
+use Rattle.heights.specs.Reading.{told}
+use Rattle.heights.specs.declared.Reading.{Reading}
+
+unit-positive : (U : ℕ) → unitCheck U ≡ none → 0 < U
+unfolding unitCheck
+unit-positive U e = listed U (required (eqb U 16 || eqb U 32 || eqb U 64 || eqb U 128 || eqb U 256 || eqb U 512) unit e)
+  where
+    listed : (U : ℕ) → T (eqb U 16 || eqb U 32 || eqb U 64 || eqb U 128 || eqb U 256 || eqb U 512) → 0 < U
+    listed zero t = absurd t
+    listed (suc n) t = omega arith
+
+-- five checks that refuse nothing
+each : (a b c d e : Check) → (a then b then c then d then e) ≡ none → (a ≡ none) × (b ≡ none) × (c ≡ none) × (d ≡ none) × (e ≡ none)
+each a b c d e h =
+    let k = then-rest a (b then c then d then e) h in
+    let i = then-rest b (c then d then e) k in
+    let j = then-rest c (d then e) i in
+    (then-first a (b then c then d then e) h, then-first b (c then d then e) k, then-first c (d then e) i, then-first d e j, then-rest d e j)
+
+-- what the checks of a height leave: a position on the lattice, whose control values are in range
+pub height-passed : (m n U : ℕ) (l : List ℤ) (x y : ℕ) → heightCheck m n U l x y ≡ none → Inside U m n x y × Bounded m n (control m l) limit
+unfolding heightCheck inside
+height-passed m n U l x y h =
+    let p = each (cellsCheck 512 m n) (unitCheck U) (require (leb (controls m n) (length l)) short) (latticeCheck m n l) (require (inside U m x && inside U n y) (position 0)) h in
+    let sides = cells-passed 512 m n (p .0) in
+    let at = both (inside U m x) (inside U n y) (required (inside U m x && inside U n y) (position 0) (p .4)) in
+    let on : Inside U m n x y = record { unit = unit-positive U (p .1); across = sides .0; up = sides .2; x-inside = leb→le x (U * m) (at .0); y-inside = leb→le y (U * n) (at .1) } in
+    (on, control-within m n l (lattice-passed m n l (p .3)))
+
+-- ---- the promises
+
+module _ (m n U : ℕ) (l : List ℤ) (x y : ℕ) (r : Reading) (z : ℤ) (rules : told r ≡ heightAnswer m n U l x y) (is : told r ≡ accepted z) where
+  passed : Inside U m n x y × Bounded m n (control m l) limit
+  unfolding heightAnswer
+  passed = height-passed m n U l x y (answer-none (heightCheck m n U l x y) (height U m n (control m l) x y) z (sym rules ∙ is))
+
+  height-is : height U m n (control m l) x y ≡ z
+  unfolding heightAnswer
+  height-is = answer-value (heightCheck m n U l x y) (height U m n (control m l) x y) z (sym rules ∙ is)
+
+  pub in-range : natAbs z ≤ 4_000_000_000
+  in-range = rw (← height-is) (height-within U m n x y (passed .0) (control m l) limit (passed .1))
+
+  -- 2 |36U⁶ · z - surface| ≤ 2 · 36U⁶
+  pub near-surface : natAbs (pos 2 *ℤ (pos (full U) *ℤ z -ℤ surface U m n (control m l) x y)) ≤ 2 * full U
+  near-surface = rw (← height-is) (height-distance U m n x y (passed .0) (control m l))
