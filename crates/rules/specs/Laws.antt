@@ -4,6 +4,7 @@ pub mod Checks
 pub mod Rounding
 pub mod Surface
 pub mod TwoScale
+pub mod Fit
 pub mod Levels
 pub mod Distance
 pub mod LatticeFile
