@@ -93,6 +93,9 @@ pub record Nodes : Type 0 where
   pub across : ℕ
   pub down : ℕ
 
+abbrev pub nodes : ℕ → ℕ → ℕ → ℕ → ℕ → Nodes
+nodes x0 y0 step across down = record { x0 = x0; y0 = y0; step = step; across = across; down = down }
+
 -- the position of node q; nodes go "row by row"
 unfoldable pub nodeX : Nodes → ℕ → ℕ
 nodeX g q = g .x0 + stepOf (g .step) * (q % g .across)
@@ -125,6 +128,9 @@ pub record Lent : Type 0 where
   pub residual : List ℤ
   pub whole : List ℤ
   pub floats : List Float
+
+abbrev pub lent : List ℤ → List ℤ → List ℤ → List Float → Lent
+lent lattice residual whole floats = record { lattice = lattice; residual = residual; whole = whole; floats = floats }
 
 -- "K is (m0 × 2^h + 3)(n0 × 2^h + 3)"
 unfoldable pub K : Shape → ℕ

@@ -17,6 +17,9 @@ pub record Shape : Type 0 where
   pub n0 : ℕ
   pub h : ℕ
 
+abbrev pub shape : ℕ → ℕ → ℕ → Shape
+shape m0 n0 h = record { m0 = m0; n0 = n0; h = h }
+
 -- the cells along x and along y, and the U, of level k
 unfoldable pub columns : Shape → ℕ → ℕ
 columns a k = cellsAt (a .m0) k

@@ -4,20 +4,21 @@ use mathlib.Core.Bool.{Bool, true, false, cond}
 use mathlib.Core.Option.{Option, none, some}
 use mathlib.Core.List.{List, [], _∷_, map, map-map}
 use Prim.Native.Nat.{ℕ, zero, suc, _+_, _*_, _/_, _%_, _^_, _≤_, _<_, zero-le}
-use native.Mathlib.Nat.{pow-suc, not-suc-le-zero, le-of-suc-le-suc, div-add-mod'}
+use native.Mathlib.Nat.{not-suc-le-zero, le-of-suc-le-suc, div-add-mod'}
 use native.Mathlib.Omega.{arith}
 use lib.Dec.{T}
 use lib.IntN.{ℤ, pos, natAbs, _+ℤ_, _-ℤ_}
 use lib.ListN.{length, getD, length-map}
 use lib.Seq.{take-all}
 use Rattle.algebra.specs.Table.{tabulate, getD-tabulate, tabulate-same, tabulate-take}
-use Rattle.rules.specs.Grid.{limit, inRange, cellsAt, controls, control, store}
+use Rattle.rules.specs.Grid.{limit, inRange, controls, control, store}
 use Rattle.rules.specs.Surface.{height}
 use Rattle.rules.specs.Level.{Point, Coefficient, fitted, untouched, nearFloat, kept, settled, fittedAt}
 use Rattle.rules.specs.Refinement.{refined}
 use Rattle.rules.specs.Fit.{Shape, columns, rows, unitOf, pointsOf, valueAt, orZero, levelOf, lowered, raised, residuals, level, running, sumCheck}
 use Rattle.rules.specs.Answers.{sum}
 use Rattle.rules.specs.Laws.Checks.{AllInRange, inRange-size, size-rangeCheck}
+use Rattle.rules.specs.Laws.Levels.{cells-double}
 
 -- ---- points and their three lists
 
@@ -147,14 +148,11 @@ pub next-running : (a : Shape) (points : List Point) (k : ℕ)
     ≡ tabulate (controls (columns a (suc k)) (rows a (suc k)))
     (λ q. getD (store (2 * columns a k) (2 * rows a k) (refined (control (columns a k) (running a points k)))) q (pos 0)
     +ℤ getD (level a points (suc k)) q (pos 0))
-unfolding running raised store columns rows cellsAt
+unfolding running raised store columns rows
 next-running a points k =
-    rw (twice (a .m0) k, twice (a .n0) k)
+    rw (← cells-double (a .m0) k, ← cells-double (a .n0) k)
     (tabulate-same count _ _ (λ q h.
     ap₂ _+ℤ_ (sym (getD-tabulate count _ q (pos 0) h)) (control-at (columns a (suc k)) (level a points (suc k)) q)))
   where
     count : ℕ
     count = controls (columns a (suc k)) (rows a (suc k))
-
-    twice : (m0 k : ℕ) → 2 * cellsAt m0 k ≡ cellsAt m0 (suc k)
-    twice m0 k = rw (pow-suc 2 k) (omega arith)

@@ -19,7 +19,7 @@ use Rattle.rules.specs.Laws.Surface.{Bounded, Same, Inside, full, full-d
 
 -- ---- from a level to the next: twice the cells, each half as wide
 
-cells-double : (m0 k : ℕ) → cellsAt m0 (suc k) ≡ 2 * cellsAt m0 k
+pub cells-double : (m0 k : ℕ) → cellsAt m0 (suc k) ≡ 2 * cellsAt m0 k
 unfolding cellsAt
 cells-double m0 k = rw (pow-succ' 2 k) (omega arith)
 
