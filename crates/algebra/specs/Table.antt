@@ -1,13 +1,18 @@
 -- Lists as tables: a list by its entries' rule, a list joined from parts, and a result laid over the start of a slice, with their laws.
 use mathlib.Core.Path.{_≡_, refl, sym, ap, ap₂, _∙_}
 use mathlib.Core.List.{List, [], _∷_, _++_, append-assoc, append-nil}
+use mathlib.Core.Logic.{_⊎_, ⊎-elim}
 use Prim.Native.Nat.{ℕ, zero, suc, _+_, _-_, _≤_, _<_}
 use native.Mathlib.Numerals.{add-one}
 use native.Mathlib.Omega.{arith}
 use native.Mathlib.Decide.{decLt}
 use native.Mathlib.Nat.{not-suc-le-zero, add-zero, zero-add, add-suc, add-assoc}
-use lib.ListN.{length, getD, take, drop, set, length-append, length-take, length-drop, drop-of-length-le, List·getD-append}
-use lib.Seq.{take-suc, getD-at, getD-append-add, getD-take, getD-drop, drop-cons, set-at, take-at, drop-at, drop-drop, take-append-seam, drop-append-add, sets, sets-eq}
+use lib.ListN.{length, getD, take, drop, set, replicate, length-append, length-take, length-drop, take-append-drop, drop-of-length-le, replicate-append-replicate, List·getD-append}
+use lib.Seq.{take-suc, getD-at, getD-append-add, getD-take, getD-drop, drop-cons, set-at, take-at, drop-at, drop-drop, take-append-seam, take-append-le, drop-append-le, take-take, drop-append-add, sets, sets-eq}
+
+-- the k places from n on are apart from the j places from m on
+abbrev pub Apart : ℕ → ℕ → ℕ → ℕ → Type 0
+Apart n k m j = (n + k ≤ m) ⊎ (m + j ≤ n)
 
 module _ {ℓ} {A : Type ℓ} where
   -- f 0, f 1, .. f (n - 1)
@@ -63,6 +68,12 @@ module _ {ℓ} {A : Type ℓ} where
   unfolding tabulate
   tabulate-take zero l d h = refl
   tabulate-take (suc n) l d h = ap (λ r. r ++ (getD l n d ∷ [])) (tabulate-take n l d (omega arith)) ∙ sym (take-suc l n d h)
+
+  -- one entry over and over
+  pub tabulate-replicate : (n : ℕ) (a : A) → tabulate n (λ i. a) ≡ replicate n a
+  unfolding tabulate
+  tabulate-replicate zero a = refl
+  tabulate-replicate (suc n) a = ap (λ l. l ++ (a ∷ [])) (tabulate-replicate n a) ∙ replicate-append-replicate n 1 a ∙ ap (λ k. replicate k a) (add-one n)
 
   -- ---- a result over a slice
 
@@ -155,6 +166,10 @@ module _ {ℓ} {A : Type ℓ} where
   unfolding laid
   laid-sets n r d h = sets-eq r d n h ∙ append-assoc (take n d) r (drop (n + length r) d)
 
+  pub laid-none : (n : ℕ) (d : List A) → laid n [] d ≡ d
+  unfolding laid
+  laid-none n d = rw (add-zero n) (take-append-drop n d)
+
   -- what is laid at the start is laid over
   pub laid-front : (r d : List A) → laid 0 r d ≡ over r d
   unfolding laid over
@@ -197,3 +212,130 @@ module _ {ℓ} {A : Type ℓ} where
   pub getD-area : (n k : ℕ) (d : List A) (i : ℕ) (z : A) → i < k → getD (area n k d) i z ≡ getD d (n + i) z
   unfolding area
   getD-area n k d i z h = getD-take k (drop n d) i z h ∙ getD-drop n d i z
+
+  -- the first entries of an area
+  pub take-area : (n j k : ℕ) (d : List A) → j ≤ k → take j (area n k d) ≡ area n j d
+  unfolding area
+  take-area n j k d h = take-take j k (drop n d) h
+
+  -- an area by its entries
+  pub tabulate-area : (n k : ℕ) (d : List A) (z : A) → n + k ≤ length d → tabulate k (λ i. getD d (n + i) z) ≡ area n k d
+  unfolding area
+  tabulate-area n k d z h =
+      tabulate-same k _ _ (λ i l. sym (getD-drop n d i z)) ∙ tabulate-take k (drop n d) z (rw (length-drop n d) (omega arith))
+
+  -- a part that is lent from n to n + k is an area
+  pub area-part : (n k : ℕ) (d : List A) → take (n + k - n) (drop n d) ≡ area n k d
+  unfolding area
+  area-part n k d = let e : n + k - n ≡ k = omega arith in rw e refl
+
+  -- what is laid over the start of a part that is lent is laid in the whole
+  pub laid-part : (n k : ℕ) (r d : List A) → length r ≤ k → n + k ≤ length d
+      → take n d ++ (over r (take k (drop n d)) ++ drop k (drop n d)) ≡ laid n r d
+  unfolding laid over
+  laid-part n k r d h l =
+      ap (λ u. take n d ++ u)
+      (append-assoc r (drop (length r) part) rest
+      ∙ ap (λ u. r ++ u) (sym (drop-append-le (length r) part rest long) ∙ ap (drop (length r)) (take-append-drop k (drop n d)) ∙ drop-drop (length r) n d))
+    where
+      part : List A
+      part = take k (drop n d)
+
+      rest : List A
+      rest = drop k (drop n d)
+
+      long : length r ≤ length part
+      long = simp (length-take, length-drop) (omega arith)
+
+  area-front : (n k : ℕ) (a b : List A) → n + k ≤ length a → area n k (a ++ b) ≡ area n k a
+  unfolding area
+  area-front n k a b h =
+      ap (take k) (drop-append-le n a b (omega arith)) ∙ take-append-le k (drop n a) b (rw (length-drop n a) (omega arith))
+
+  -- ---- what lies past, at and apart from a laid part
+
+  pub drop-laid : (n k : ℕ) (r d : List A) → n + length r ≤ k → n ≤ length d → drop k (laid n r d) ≡ drop k d
+  unfolding laid
+  drop-laid n k r d h l =
+      ap (drop k) (sym (append-assoc (take n d) r rest))
+      ∙ ap (λ i. drop i (front ++ rest)) at
+      ∙ drop-append-add front rest past
+      ∙ drop-drop past (n + length r) d
+      ∙ ap (λ i. drop i d) sum
+    where
+      front : List A
+      front = take n d ++ r
+
+      rest : List A
+      rest = drop (n + length r) d
+
+      past : ℕ
+      past = k - (n + length r)
+
+      sum : n + length r + past ≡ k
+      sum = omega arith
+
+      at : k ≡ length front + past
+      at = simp (length-append, length-take) (omega arith)
+
+  pub area-laid : (n k : ℕ) (r d : List A) → length r ≡ k → n ≤ length d → area n k (laid n r d) ≡ r
+  unfolding area laid
+  area-laid n k r d e h = ap (take k) (drop-at (take n d) _ n (rw (length-take n d) (omega arith))) ∙ take-at r _ k e
+
+  pub area-apart : (n k m : ℕ) (r d : List A) → Apart n k m (length r) → m ≤ length d → area n k (laid m r d) ≡ area n k d
+  unfolding laid area
+  area-apart n k m r d a l = ⊎-elim before past a
+    where
+      before : n + k ≤ m → area n k (laid m r d) ≡ area n k d
+      before h =
+          let e : n + k ≤ length (take m d) = rw (length-take m d) (omega arith) in
+          area-front n k (take m d) _ e ∙ sym (area-front n k (take m d) (drop m d) e) ∙ ap (area n k) (take-append-drop m d)
+
+      past : m + length r ≤ n → area n k (laid m r d) ≡ area n k d
+      past h = ap (take k) (drop-laid m n r d h l)
+
+  pub getD-laid : (n : ℕ) (r d : List A) (i : ℕ) (z : A) → i < length r → n ≤ length d → getD (laid n r d) (n + i) z ≡ getD r i z
+  getD-laid n r d i z h l = sym (getD-area n (length r) (laid n r d) i z h) ∙ ap (λ l. getD l i z) (area-laid n (length r) r d refl l)
+
+  pub getD-apart : (i m : ℕ) (r d : List A) (z : A) → Apart i 1 m (length r) → m ≤ length d → getD (laid m r d) i z ≡ getD d i z
+  getD-apart i m r d z a l = sym (one (laid m r d)) ∙ ap (λ l. getD l 0 z) (area-apart i 1 m r d a l) ∙ one d
+    where
+      one : (d : List A) → getD (area i 1 d) 0 z ≡ getD d i z
+      one d = getD-area i 1 d 0 z (omega arith) ∙ ap (λ k. getD d k z) (add-zero i)
+
+  -- ---- entries laid one after another
+
+  -- what a store of the next entry makes of a slice that holds those before it
+  pub laid-store : (n i : ℕ) (f : ℕ → A) (d : List A) {l : List A} {v : A} → n + i < length d → l ≡ laid n (tabulate i f) d → v ≡ f i
+      → set l (n + i) v ≡ laid n (tabulate (i + 1) f) d
+  unfolding tabulate
+  laid-store n i f d h p q =
+      let e = length-tabulate i f in
+      ap₂ (λ l v. set l (n + i) v) p q
+      ∙ ap (λ k. set (laid n (tabulate i f) d) (n + k) (f i)) (sym e)
+      ∙ set-laid n (tabulate i f) d (f i) (rw e h)
+      ∙ ap (λ k. laid n (tabulate k f) d) (sym (add-one i))
+
+  -- the next entries, written to a part of their own
+  pub laid-next : (n i k : ℕ) (f : ℕ → A) (d : List A) {l : List A} → n ≤ length d → l ≡ laid n (tabulate i f) d
+      → laid (n + i) (tabulate k (λ j. f (i + j))) l ≡ laid n (tabulate (i + k) f) d
+  laid-next n i k f d h p =
+      ap (λ l. laid (n + i) next l) p
+      ∙ ap (λ j. laid (n + j) next (laid n (tabulate i f) d)) (sym (length-tabulate i f))
+      ∙ laid-more n (tabulate i f) next d h
+      ∙ ap (λ r. laid n r d) (sym (tabulate-add i k f))
+    where
+      next : List A
+      next = tabulate k (λ j. f (i + j))
+
+  -- ---- slices that agree past a place
+
+  pub drop-further : (n k : ℕ) (d e : List A) → n ≤ k → drop n d ≡ drop n e → drop k d ≡ drop k e
+  drop-further n k d e h p = at d ∙ ap (drop (k - n)) p ∙ sym (at e)
+    where
+      at : (l : List A) → drop k l ≡ drop (k - n) (drop n l)
+      at l = let e : n + (k - n) ≡ k = omega arith in rw (drop-drop (k - n) n l, e) refl
+
+  pub over-past : (r d e : List A) → drop (length r) d ≡ drop (length r) e → over r d ≡ over r e
+  unfolding over
+  over-past r d e p = ap (λ l. r ++ l) p

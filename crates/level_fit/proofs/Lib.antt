@@ -1,0 +1,2 @@
+pub mod Scatter
+pub mod Weights

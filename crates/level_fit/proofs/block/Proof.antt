@@ -1,0 +1,25 @@
+-- `level_fit::block` meets its contract: the table of sixteen products, written out.
+use mathlib.Core.Path.{refl}
+use Rattle.algebra.specs.Table.{tabulate}
+use Rattle.level_fit.specs.Sums.{blockOf}
+use borrow.Author.Needs.{needs}
+use Rattle.level_fit.proofs.block.Statement.{statement}
+use Rattle.level_fit.proofs.block.Tie as tie
+
+returns : tie.Need-returns
+unfolding blockOf tabulate
+returns c = refl
+
+pub block-spec : {M : Type 1} → statement M
+block-spec =
+    tie.close
+    (tie.spec
+    (λ c. search needs)
+    (λ c. search needs)
+    (λ c. search needs)
+    (λ c. search needs)
+    (λ c. search needs)
+    (λ c. search needs)
+    (λ c. search needs)
+    (λ c. search needs)
+    returns)

@@ -1,0 +1,230 @@
+// One level of the fit, in f64 to the bit: the points' weights are scattered into two sums a control value, and each pair of sums becomes a control value.
+ghost use mathlib.Core.Path.{_≡_};
+ghost use Prim.Native.Nat.{ℕ, _+_, _*_, _^_, _≤_, _<_};
+ghost use lib.Dec.{T};
+ghost use lib.IntN.{natAbs};
+ghost use lib.ListN.{length};
+ghost use Rattle.algebra.specs.Table.{tabulate, over};
+ghost use Rattle.rules.specs.Answers as answer;
+ghost use Rattle.rules.specs.Grid.{controls};
+ghost use Rattle.rules.specs.Level as rule;
+ghost use Rattle.rules.specs.Fit.{pointsOf, present, orZero};
+ghost use Rattle.float_near.specs.Settled.{settled};
+ghost use Rattle.level_fit.specs.Sums.{blockOf, weightAt, sumsOf, coefficientOf, change, row, blockAdded, pointAdded, sumTable, settledAt, okCheck, Fitting, Fittable};
+use float_near::Settled;
+
+// The two running sums of a control value.
+pub struct Sums {
+    pub first: f64,
+    pub second: f64,
+}
+
+// A control value's quotient, or that no point has reached it.
+pub enum Coefficient {
+    Fitted(f64),
+    Untouched,
+}
+
+// A whole number that f64 holds.
+fn exact(v: i64) -> f64
+    requires { ⌜ natAbs v ≤ 2 ^ 53 ⌝ }
+    ensures { λ r. ⌜ r ≡ rule.float v ⌝ }
+{
+    v as f64
+}
+
+// "Bk and Cl are numerator divided by 6U³"
+pub fn axis(e: u32, a: usize) -> [f64; 4]
+    requires { ⌜ (e ≤ 9) × (a ≤ 2 ^ e) ⌝ }
+    ensures { λ r. ⌜ r ≡ tabulate 4 (rule.basis (2 ^ e) a) ⌝ }
+{
+    let b = heights::basis_of(1 << e, a);
+    let d = exact(6 << (3 * e));
+    [
+        exact(b.b0) / d,
+        exact(b.b1) / d,
+        exact(b.b2) / d,
+        exact(b.b3) / d,
+    ]
+}
+
+// "The sixteen weights form a four by four block, w = Bk × Cl"
+pub fn block(b: [f64; 4], c: [f64; 4]) -> [[f64; 4]; 4]
+    ensures { λ r. ⌜ r ≡ blockOf b c ⌝ }
+{
+    let b0 = b[0];
+    let b1 = b[1];
+    let b2 = b[2];
+    let b3 = b[3];
+    let c0 = c[0];
+    let c1 = c[1];
+    let c2 = c[2];
+    let c3 = c[3];
+    [
+        [b0 * c0, b0 * c1, b0 * c2, b0 * c3],
+        [b1 * c0, b1 * c1, b1 * c2, b1 * c3],
+        [b2 * c0, b2 * c1, b2 * c2, b2 * c3],
+        [b3 * c0, b3 * c1, b3 * c2, b3 * c3],
+    ]
+}
+
+// "S adds w × w from 0, k outer, l inner"
+pub fn squares(w: [[f64; 4]; 4]) -> f64
+    ensures { λ r. ⌜ r ≡ rule.squares (weightAt w) ⌝ }
+{
+    let mut s = 0.0;
+    let mut i = 0;
+    while i < 16 {
+        let v = w[i / 4][i % 4];
+        s = s + v * v;
+        i += 1;
+    }
+    s
+}
+
+// "the first grows by (w × w) × ((w × z) / S), the second by w × w"
+pub fn grown(sums: Sums, w: f64, z: f64, s: f64) -> Sums
+    ensures { λ r. ⌜ sumsOf r ≡ rule.grown w z s (sumsOf sums) ⌝ }
+{
+    Sums {
+        first: sums.first + (w * w) * ((w * z) / s),
+        second: sums.second + w * w,
+    }
+}
+
+// One point's part in the control value at place q: its pair of sums is read, grown and put back.
+fn add_weight(sums: &mut [f64], q: usize, w: f64, z: f64, s: f64)
+    requires { ⌜ 2 * q + 1 < length (now sums) ⌝ }
+    ensures { λ _. ⌜ now (sums .exit) ≡ change (rule.grown w z s) (now (sums .entry)) q ⌝ }
+{
+    let i = 2 * q;
+    let j = i + 1;
+    let pair = grown(
+        Sums {
+            first: sums[i],
+            second: sums[j],
+        },
+        w,
+        z,
+        s,
+    );
+    sums[i] = pair.first;
+    sums[j] = pair.second;
+}
+
+// The four control values of one lattice row that a point's cell uses, from place q on: the weights of the block with second index l.
+fn add_row(sums: &mut [f64], q: usize, w: [[f64; 4]; 4], l: usize, z: f64, s: f64)
+    requires { ⌜ (2 * (q + 4) ≤ length (now sums)) × (l < 4) ⌝ }
+    ensures { λ _. ⌜ now (sums .exit) ≡ row (λ k. rule.grown (weightAt w k l) z s) 4 (now (sums .entry)) q ⌝ }
+{
+    add_weight(sums, q, w[0][l], z, s);
+    add_weight(sums, q + 1, w[1][l], z, s);
+    add_weight(sums, q + 2, w[2][l], z, s);
+    add_weight(sums, q + 3, w[3][l], z, s);
+}
+
+// A point's sixteen control values from place q on: the block's first index goes along the lattice row, the second from row to row.
+fn add_block(sums: &mut [f64], q: usize, width: usize, w: [[f64; 4]; 4], z: f64)
+    requires { ⌜ 2 * (q + width + width + width + 4) ≤ length (now sums) ⌝ }
+    ensures { λ _. ⌜ now (sums .exit) ≡ blockAdded (weightAt w) z width (now (sums .entry)) q ⌝ }
+{
+    let s = squares(w);
+    let q1 = q + width;
+    let q2 = q1 + width;
+    let q3 = q2 + width;
+    add_row(sums, q, w, 0, z, s);
+    add_row(sums, q1, w, 1, z, s);
+    add_row(sums, q2, w, 2, z, s);
+    add_row(sums, q3, w, 3, z, s);
+}
+
+// One point's part in the sums.
+fn add_point(sums: &mut [f64], m: usize, n: usize, e: u32, x: usize, y: usize, z: i64)
+    requires { ⌜ Fitting m n e x y (length (now sums)) ⌝ }
+    ensures { λ _. ⌜ now (sums .exit) ≡ pointAdded (2 ^ e) m n (record { x = x; y = y; z = z }) (now (sums .entry)) ⌝ }
+{
+    let across = heights::locate(x, m, e);
+    let up = heights::locate(y, n, e);
+    let w = block(axis(e, across.offset), axis(e, up.offset));
+    let width = m + 3;
+    add_block(
+        sums,
+        up.cell * width + across.cell,
+        width,
+        w,
+        std::num::nearest_i64_to_f64(z),
+    );
+}
+
+// The first count entries from 0, whatever stood there.
+pub fn clear(sums: &mut [f64], count: usize)
+    requires { ⌜ count ≤ length (now sums) ⌝ }
+    ensures { λ _. ⌜ now (sums .exit) ≡ over (tabulate count (λ _. rule.zero64)) (now (sums .entry)) ⌝ }
+{
+    let mut i = 0;
+    while i < count {
+        sums[i] = 0.0;
+        i += 1;
+    }
+}
+
+// Both sums of every control value from 0, points in list order.
+pub fn gather(m: usize, n: usize, e: u32, xs: &[u16], ys: &[u16], zs: &[i64], sums: &mut [f64])
+    requires { ⌜ Fittable m n e (now xs) (now ys) (now zs) ⌝ }
+    requires { ⌜ 2 * controls m n ≤ length (now sums) ⌝ }
+    ensures { λ _. ⌜ now (sums .exit) ≡ over (sumTable (2 ^ e) m n (pointsOf (now (xs .entry)) (now (ys .entry)) (now (zs .entry)))) (now (sums .entry)) ⌝ }
+{
+    let count = (m + 3) * (n + 3);
+    clear(sums, 2 * count);
+    let mut i = 0;
+    while i < xs.len() {
+        add_point(sums, m, n, e, xs[i] as usize, ys[i] as usize, zs[i]);
+        i += 1;
+    }
+}
+
+// "a control value is either fitted, with its quotient first over second, where the second sum is above 0, or untouched"
+pub fn quotient_of(sums: Sums) -> Coefficient
+    ensures { λ r. ⌜ coefficientOf r ≡ rule.coefficient (sumsOf sums) ⌝ }
+{
+    if 0.0 < sums.second {
+        Coefficient::Fitted(sums.first / sums.second)
+    } else {
+        Coefficient::Untouched
+    }
+}
+
+// "untouched, which counts as 0. The quotient becomes near of its exact value"
+pub fn settle(c: Coefficient) -> Settled
+    ensures { λ r. ⌜ settled r ≡ rule.settled (coefficientOf c) ⌝ }
+{
+    match c {
+        Coefficient::Fitted(q) => float_near::near_float(q),
+        Coefficient::Untouched => Settled::Value(0),
+    }
+}
+
+// The control values of count pairs of sums, or false where one is refused.
+pub fn settle_all(count: usize, sums: &[f64], level: &mut [i64]) -> bool
+    requires { ⌜ (2 * count ≤ length (now sums)) × (count ≤ length (now level)) × (count ≤ 265_225) ⌝ }
+    ensures { λ ok. ⌜ ((r : answer.Refusal) → answer.firstOf count (λ q. answer.require (present (settledAt (now (sums .entry)) q)) r) ≡ okCheck ok r) ⌝ }
+    ensures { λ ok. ⌜ (T ok → now (level .exit) ≡ over (tabulate count (λ q. orZero (settledAt (now (sums .entry)) q))) (now (level .entry))) ⌝ }
+{
+    let mut q = 0;
+    while q < count {
+        let i = 2 * q;
+        match settle(quotient_of(Sums {
+            first: sums[i],
+            second: sums[i + 1],
+        })) {
+            Settled::Value(z) => {
+                level[q] = z;
+            }
+            Settled::Outside => {
+                return false;
+            }
+        }
+        q += 1;
+    }
+    true
+}
