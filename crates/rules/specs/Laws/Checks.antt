@@ -1,5 +1,5 @@
 -- Laws of checks: what an accepted run of checks has shown, and which offender a refusal names.
-use mathlib.Core.Path.{_≡_, refl, sym, _∙_, ap}
+use mathlib.Core.Path.{_≡_, refl, sym, _∙_, ap, subst}
 use mathlib.Core.Bool.{Bool, true, false, _&&_}
 use mathlib.Core.Option.{Option, none, some}
 use mathlib.Core.List.{List}
@@ -81,6 +81,34 @@ firstOf-at (suc n) i f r e l s = go (decLt i n) (firstOf-at n i f r e)
     go (yes k) ih = rw (ih k s) refl
     go (no g) ih = let same : i ≡ n = omega arith in then-none (firstOf n f) (f n) (rw (sym same) e) ∙ rw (sym same) s
 
+-- ---- what every refusal of a check is
+
+-- whatever the check refuses by has P
+pub record Only (P : Refusal → Type 0) (c : Check) : Type 0 where
+  pub only : (r : Refusal) → c ≡ some r → P r
+
+module _ {P : Refusal → Type 0} where
+  only-none : Only P none
+  only-none = record { only = λ r e. absurd (apart r e) }
+    where
+      apart : (r : Refusal) → none ≡ some r → ⊥
+      apart r e = let z : _≡_ {A = ℕ} 0 1 = cc in omega arith
+
+  pub only-require : (b : Bool) (r : Refusal) → P r → Only P (require b r)
+  unfolding require
+  only-require true r p = only-none
+  only-require false r p = record { only = λ s e. let same : r ≡ s = cc in subst P same p }
+
+  pub only-then : {c d : Check} → Only P c → Only P d → Only P (c then d)
+  unfolding _then_
+  only-then {c = none} p q = q
+  only-then {c = some r} p q = p
+
+  pub only-firstOf : (n : ℕ) (f : ℕ → Check) → ((i : ℕ) → Only P (f i)) → Only P (firstOf n f)
+  unfolding firstOf
+  only-firstOf zero f h = only-none
+  only-firstOf (suc n) f h = only-then (only-firstOf n f h) (h n)
+
 -- ---- ranges
 
 -- the first n values are in range
@@ -99,6 +127,10 @@ pub rangeCheck-size : (n : ℕ) (values : List ℤ) (f : ℕ → Refusal) → ra
 unfolding rangeCheck
 rangeCheck-size n values f e i l =
     inRange-size (getD values i (pos 0)) (required (inRange (getD values i (pos 0))) (f i) (firstOf-none n (λ i. require (inRange (getD values i (pos 0))) (f i)) e i l))
+
+pub only-rangeCheck : {P : Refusal → Type 0} (n : ℕ) (values : List ℤ) (f : ℕ → Refusal) → ((i : ℕ) → P (f i)) → Only P (rangeCheck n values f)
+unfolding rangeCheck
+only-rangeCheck n values f h = only-firstOf n _ (λ i. only-require (inRange (getD values i (pos 0))) (f i) (h i))
 
 pub size-rangeCheck : (n : ℕ) (values : List ℤ) (f : ℕ → Refusal) → AllInRange n values → rangeCheck n values f ≡ none
 unfolding rangeCheck
@@ -133,3 +165,8 @@ pub answer-value : {A : Type 0} (c : Check) (a b : A) → answer c a ≡ accepte
 unfolding answer
 answer-value none a b e = cc
 answer-value (some r) a b e = cc
+
+pub answer-refused : {A : Type 0} (c : Check) (a : A) (r : Refusal) → answer c a ≡ refused r → c ≡ some r
+unfolding answer
+answer-refused none a r e = let z : none ≡ some r = cc in z
+answer-refused (some s) a r e = cc

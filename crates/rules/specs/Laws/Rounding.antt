@@ -1,11 +1,11 @@
 -- The laws of floor and near, for any divisor d ≥ 1: their bounds, that these fix them, and what follows from near's distance alone.
-use mathlib.Core.Path.{_≡_, sym, ap, subst}
+use mathlib.Core.Path.{_≡_, refl, sym, ap, subst}
 use mathlib.Core.Logic.{_↔_, inl, inr}
 use Prim.Native.Nat.{ℕ, _+_, _*_, _≤_, _<_, zero-le}
 use native.Mathlib.Nat.{div-add-mod, mod-lt, div-div-eq-div-mul, le-of-mul-le-mul-left}
 use native.Mathlib.Omega.{arith}
 use lib.IntN.{ℤ, pos, negsuc, natAbs, _+ℤ_, _-ℤ_, _*ℤ_, +ℤ-idr, +ℤ-invr, *ℤ-comm}
-use lib.Signed.{_≤ℤ_, _<ℤ_, ≤ℤ-refl}
+use lib.Signed.{shrZ, _≤ℤ_, _<ℤ_, ≤ℤ-refl}
 use Rattle.algebra.specs.Difference.{split, whole}
 use Rattle.algebra.specs.Size.{≤ℤ-antisym, ≤ℤ-<ℤ-trans, <ℤ-suc, ≡-or-<ℤ, <ℤ-cancel, natAbs-sum, natAbs-product, same-of-natAbs}
 use Rattle.rules.specs.Rounding.{floor, near}
@@ -126,7 +126,12 @@ near-exact-right n d h = rw (*ℤ-comm n (pos d)) (near-exact n d h)
 pub near-within : (v : ℤ) (d B : ℕ) → 0 < d → natAbs v ≤ d * B → natAbs (near v d) ≤ B
 near-within v d B h = rounds-within (near-rounds d h) v B
 
--- ---- how code divides: step by step, and over an even divisor by adding its half
+-- ---- how code divides: by a shift, step by step, and over an even divisor by adding its half
+
+pub shift-floor : (v : ℤ) (d : ℕ) → shrZ v d ≡ floor v d
+unfolding floor
+shift-floor (pos a) d = refl
+shift-floor (negsuc a) d = refl
 
 pub floor-floor : (v : ℤ) (a b : ℕ) → floor (floor v a) b ≡ floor v (a * b)
 unfolding floor

@@ -3,10 +3,10 @@
 use mathlib.Core.Path.{_≡_, sym, ap, ap₂, _∙_, fun-ext}
 use mathlib.Core.List.{List, [], _∷_}
 use Prim.Native.Nat.{ℕ, _+_, _*_, _/_, _%_, _≤_, _<_}
-use native.Mathlib.Nat.{mul-pos, mul-le-mul-left, mul-le-mul-right, mul-assoc, mul-comm, mul-add-div-right, mul-add-mod-self-right, div-eq-of-lt, mod-eq-of-lt}
+use native.Mathlib.Nat.{mul-pos, mul-le-mul-left, mul-le-mul-right, mul-assoc, mul-comm, mul-add-div-right, mul-add-mod-self-right, div-eq-of-lt, mod-eq-of-lt, mod-lt, div-lt-iff-lt-mul}
 use native.Mathlib.Omega.{arith}
 use lib.IntN.{ℤ, pos, natAbs, _+ℤ_, _-ℤ_, _*ℤ_, +ℤ-negℤ-cancel, -ℤ-+ℤ-cancel}
-use lib.ListN.{length, drop, List·getD-append}
+use lib.ListN.{length, getD, drop, List·getD-append}
 use Rattle.algebra.specs.Solver.{var, con, _⊕_, _⊗_, _⊖_, solve}
 use Rattle.algebra.specs.Size.{natAbs-sum, natAbs-product}
 use Rattle.algebra.specs.Table.{over, length-tabulate, getD-tabulate}
@@ -181,6 +181,13 @@ control-size m rows s t stored a h k = a (t * (m + 3) + s) (omega (arith, mul-le
 pub control-within : (m n : ℕ) (stored : List ℤ) → AllInRange (controls m n) stored → Bounded m n (control m stored) limit
 unfolding controls
 control-within m n stored a = record { size = λ s t. control-size m (n + 3) s t stored (rw (mul-comm (n + 3) (m + 3)) a) }
+
+-- what is stored of a lattice is bounded where the lattice is
+pub store-within : (m n : ℕ) (f : Lattice) (B : ℕ) → Bounded m n f B → (i : ℕ) → i < controls m n → natAbs (getD (store m n f) i (pos 0)) ≤ B
+unfolding store controls
+store-within m n f B b i h =
+    rw (getD-tabulate (controls m n) (λ q. f (q % (m + 3)) (q / (m + 3))) i (pos 0) h)
+    (b .size (i % (m + 3)) (i / (m + 3)) (mod-lt i (omega arith)) (div-lt-iff-lt-mul {k = m + 3} (omega arith) .1 (omega arith)))
 
 -- ---- refined values
 

@@ -1,0 +1,2 @@
+pub mod Refined
+pub mod Promises

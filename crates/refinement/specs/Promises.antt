@@ -1,0 +1,66 @@
+-- What a refinement promises beyond its equations with the rules: "Refine never gives 7", and the values that an accepted one writes are in range.
+use mathlib.Core.Path.{_≡_, refl, sym, ap, subst, _∙_}
+use mathlib.Core.Bool.{false, _&&_}
+use mathlib.Core.Option.{none}
+use mathlib.Core.List.{List}
+use Prim.Native.Nat.{ℕ, _*_}
+use native.Mathlib.Omega.{arith}
+use lib.Dec.{leb}
+use lib.IntN.{ℤ, pos}
+use lib.ListN.{length}
+use Rattle.algebra.specs.Table.{over, getD-over}
+use Rattle.rules.specs.Grid.{limit, within, controls, control, store}
+use Rattle.rules.specs.Refinement.{refined}
+use Rattle.rules.specs.Answers.{Refusal, cells, short, range, number, inLevels, Check, require, _then_, accepted, refused, left}
+use Rattle.rules.specs.Calls.{Cells, cellsCheck, latticeCheck, refineCheck, refineAnswer, refineLeaves}
+use Rattle.rules.specs.Laws.Checks.{Only, only-require, only-then, only-rangeCheck, then-rest, AllInRange, answer-none, answer-value, answer-refused}
+use Rattle.rules.specs.Laws.Surface.{Bounded, control-within, refined-within, length-store, store-within}
+use Rattle.checks.specs.Passed.{lattice-passed}
+use Rattle.refinement.specs.Refined.{told}
+use Rattle.refinement.specs.declared.Refined.{Refined}
+
+-- a refusal that no level gave
+abbrev pub Before7 : Refusal → Type 0
+Before7 r = (inLevels r ≡ false) × (number r ≡ 7 → ⊥)
+
+before-7 : (m n : ℕ) (l o : List ℤ) → Only Before7 (refineCheck m n l o)
+unfolding refineCheck cellsCheck latticeCheck
+before-7 m n l o =
+    only-then (only-require (within 1 256 m && within 1 256 n) cells (refl, λ e. omega arith))
+    (only-then (only-require (leb (controls m n) (length l) && leb (controls (2 * m) (2 * n)) (length o)) short (refl, λ e. omega arith))
+    (only-rangeCheck (controls m n) l range (λ i. (refl, λ e. omega arith))))
+
+-- what its checks leave: control values in range, old and new
+new-values : (m n : ℕ) (l o : List ℤ) → refineCheck m n l o ≡ none → Bounded (2 * m) (2 * n) (refined (control m l)) limit
+unfolding refineCheck
+new-values m n l o e =
+    let lengths : Check = require (leb (controls m n) (length l) && leb (controls (2 * m) (2 * n)) (length o)) short in
+    let rest = then-rest lengths (latticeCheck m n l) (then-rest (cellsCheck 256 m n) (lengths then latticeCheck m n l) e) in
+    refined-within m n (control m l) limit (control-within m n l (lattice-passed m n l rest))
+
+-- ---- the promises
+
+module _ (m n : ℕ) (lattice before after : List ℤ) (r : Refined) (rules : told r ≡ refineAnswer m n lattice before) (output : after ≡ refineLeaves m n lattice before) where
+  pub never-7 : (f : Refusal) → told r ≡ refused f → Before7 f
+  unfolding refineAnswer
+  never-7 f e = before-7 m n lattice before .only f (answer-refused (refineCheck m n lattice before) (record { m = 2 * m; n = 2 * n }) f (sym rules ∙ e))
+
+  module _ (c : Cells) (e : told r ≡ accepted c) where
+    passed : refineCheck m n lattice before ≡ none
+    unfolding refineAnswer
+    passed = answer-none (refineCheck m n lattice before) (record { m = 2 * m; n = 2 * n }) c (sym rules ∙ e)
+
+    written : after ≡ over (store (2 * m) (2 * n) (refined (control m lattice))) before
+    unfolding refineLeaves left
+    written = output ∙ ap (λ a. left a (store (2 * m) (2 * n) (refined (control m lattice))) before) (sym rules ∙ e)
+
+    new-range : AllInRange (controls (2 * m) (2 * n)) after
+    new-range i h =
+        rw (written, getD-over (store (2 * m) (2 * n) (refined (control m lattice))) before i (pos 0) (rw (length-store (2 * m) (2 * n) (refined (control m lattice))) h))
+        (store-within (2 * m) (2 * n) (refined (control m lattice)) limit (new-values m n lattice before passed) i h)
+
+    pub in-range : AllInRange (controls (c .m) (c .n)) after
+    unfolding refineAnswer
+    in-range =
+        subst (λ (k : Cells). AllInRange (controls (k .m) (k .n)) after) (answer-value (refineCheck m n lattice before) (record { m = 2 * m; n = 2 * n }) c (sym rules ∙ e))
+        new-range
