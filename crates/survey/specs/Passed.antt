@@ -1,11 +1,11 @@
 -- What a survey's checks that refuse nothing have shown: the bounds that the fit and the point writer go on with.
-use Prim.Native.Nat.{ℕ, _*_, _≤_, _<_}
-use mathlib.Core.Path.{_≡_, sym}
+use Prim.Native.Nat.{ℕ, _*_, _%_, _^_, _≤_, _<_}
+use mathlib.Core.Path.{_≡_, refl, sym}
 use mathlib.Core.Bool.{_&&_}
-use mathlib.Core.Option.{none}
+use mathlib.Core.Option.{none, some}
 use mathlib.Core.List.{List}
-use native.Mathlib.Nat.{mul-le-mul}
-use lib.Dec.{leb, eqb, leb→le, eqb→eq}
+use native.Mathlib.Nat.{mul-le-mul, lt-of-le-of-lt, mod-eq-of-lt}
+use lib.Dec.{leb, eqb, leb→le, eqb→eq, lit<}
 use lib.IntN.{ℤ, pos, natAbs}
 use lib.ListN.{length, getD}
 use lib.Pow.{pow-mono}
@@ -47,10 +47,21 @@ head-passed m0 n0 h xs ys zs e =
       lists = lists-passed xs ys zs (then-rest (levelsCountCheck h) (listsCheck xs ys zs) rest);
     }
 
+-- what follows `head`, as one run of checks with it
+pub then-assoc : (c d e : Check) → ((c then d) then e) ≡ (c then d then e)
+unfolding _then_
+then-assoc none d e = refl
+then-assoc (some r) d e = refl
+
 -- the cells a side of level h, at most 16 × 2^5
 pub cellsAt-most : (m0 h : ℕ) → m0 ≤ 16 → h ≤ 5 → cellsAt m0 h ≤ 512
 unfolding cellsAt
 cellsAt-most m0 h m k = mul-le-mul m (pow-mono k)
+
+-- a shift to the left loses nothing of them
+pub cellsAt-shifted : (m0 h : ℕ) → m0 ≤ 16 → h ≤ 5 → (m0 * 2 ^ h) % 2 ^ 64 ≡ cellsAt m0 h
+unfolding cellsAt
+cellsAt-shifted m0 h m k = mod-eq-of-lt (lt-of-le-of-lt (cellsAt-most m0 h m k) (lit< tt))
 
 -- ---- points
 

@@ -1,0 +1,40 @@
+-- A file's fields of one byte by its entries, and what a head that is not refused has shown.
+use Prim.Native.Nat.{ℕ, _+_, _≤_}
+use mathlib.Core.Path.{_≡_, refl, ap}
+use mathlib.Core.Option.{none}
+use mathlib.Core.List.{List}
+use native.Mathlib.Omega.{arith}
+use lib.Dec.{leb, leb→le}
+use lib.ListN.{length, getD}
+use Rattle.rules.specs.Grid.{within}
+use Rattle.rules.specs.Answers.{require, _then_}
+use Rattle.rules.specs.Bytes.{numberAt}
+use Rattle.rules.specs.PointFile.{PH, fileShape, headCheck}
+use Rattle.rules.specs.Laws.Bytes.{entries, numberAt-entries, record-fits}
+use Rattle.rules.specs.Laws.Checks.{required, within-bounds, then-first, then-rest}
+
+pub numberAt-one : (file : List ℕ) (b : ℕ) → numberAt 1 file b ≡ getD file b 0
+unfolding entries
+numberAt-one file b = let e : b + 0 ≡ b = omega arith in omega (arith, numberAt-entries 1 file b, ap (λ i. getD file i 0) e)
+
+pub record HeadBounds (file : List ℕ) : Type 0 where
+  pub complete : 8 ≤ length file
+  pub m0 : getD file 2 0 ≤ 16
+  pub n0 : getD file 3 0 ≤ 16
+  pub h : getD file 4 0 ≤ 5
+
+pub head-passed : (file : List ℕ) → headCheck file ≡ none → HeadBounds file
+unfolding headCheck fileShape PH
+head-passed file e =
+    let after-mark = then-rest _ _ e in
+    let after-m0 = then-rest _ _ after-mark in
+    let after-n0 = then-rest _ _ after-m0 in
+    let m = within-bounds 1 16 (numberAt 1 file 2) (required _ _ (then-first _ _ after-mark)) in
+    let n = within-bounds 1 16 (numberAt 1 file 3) (required _ _ (then-first _ _ after-m0)) in
+    let k = leb→le (numberAt 1 file 4) 5 (required _ _ (then-first _ _ after-n0)) in
+    record {
+      complete = record-fits PH refl file 0 8 (then-first _ _ e);
+      m0 = omega (arith, m .1, numberAt-one file 2);
+      n0 = omega (arith, n .1, numberAt-one file 3);
+      h = omega (arith, k, numberAt-one file 4);
+    }
