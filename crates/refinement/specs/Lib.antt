@@ -1,2 +1,3 @@
 pub mod Refined
+pub mod Rows
 pub mod Promises

@@ -4,7 +4,7 @@ use native.Mathlib.Omega.{arith}
 use borrow.Author.Needs.{needs}
 use mathlib.Core.List.{[], _∷_}
 use lib.ListN.{length-set}
-use Rattle.codec.specs.Laid.{laid-sets}
+use Rattle.algebra.specs.Table.{laid-sets}
 use Rattle.codec.proofs.put_mark.Statement.{statement}
 use Rattle.codec.proofs.put_mark.Tie as tie
 

@@ -6,7 +6,7 @@ use native.Mathlib.Numerals.{add-one}
 use native.Mathlib.Omega.{arith}
 use borrow.Author.Needs.{needs}
 use lib.ListN.{length-set}
-use Rattle.codec.specs.Laid.{laid-sets}
+use Rattle.algebra.specs.Table.{laid-sets}
 use Rattle.rules.specs.Bytes.{bytesOf}
 use Rattle.codec.proofs.put_u16.Statement.{statement}
 use Rattle.codec.proofs.put_u16.Tie as tie

@@ -1,24 +1,17 @@
 -- `refinement::refine_within` meets its contract. The loop's invariant: the rows passed lie over the first places of output.
 use mathlib.Core.Path.{_≡_, refl, sym, ap, _∙_}
 use mathlib.Core.List.{List, _++_}
-use Prim.Native.Nat.{ℕ, _+_, _-_, _*_, _/_, _%_, _≤_, _<_}
-use native.Mathlib.Nat.{mul-le-mul-right}
+use Prim.Native.Nat.{ℕ, _+_, _-_, _*_, _≤_}
 use native.Mathlib.Omega.{arith}
 use borrow.Rule.Slice.PartMut.{putMid, post-is}
 use lib.IntN.{ℤ}
 use lib.ListN.{length, take, drop, length-take, length-drop}
-use Rattle.algebra.specs.Table.{tabulate, over, over-none, length-filled, fill-part, tabulate-same}
-use Rattle.rules.specs.Grid.{controls, control, store}
+use Rattle.algebra.specs.Table.{tabulate, over, over-none, length-filled, fill-part}
+use Rattle.rules.specs.Grid.{control}
 use Rattle.rules.specs.Refinement as rule
-use Rattle.rules.specs.Laws.Checks.{AllInRange}
-use Rattle.rules.specs.Laws.Surface.{at-place}
-use Rattle.refinement.specs.Refined.{RowsRead}
+use Rattle.refinement.specs.Rows.{value, rows-read, row-below, row-values, rows-stored}
 use Rattle.refinement.proofs.refine_within.Statement.{statement}
 use Rattle.refinement.proofs.refine_within.Tie as tie
-
--- the new value at place q
-abbrev value : ℕ → List ℤ → ℕ → ℤ
-value m lattice q = rule.refined (control m lattice) (q % (2 * m + 3)) (q / (2 * m + 3))
 
 -- l is the output d with the new values over its first k places
 record Filled (m : ℕ) (lattice d : List ℤ) (k : ℕ) (l : List ℤ) : Type 0 where
@@ -34,19 +27,6 @@ abbrev μ-loop : tie.MeasureT-loop
 
 -- ---- a row
 
--- the rows of the lattice that it reads
-rows-read : (m n t : ℕ) (lattice : List ℤ) → t < 2 * n + 3 → controls m n ≤ length lattice → AllInRange (controls m n) lattice → RowsRead m t lattice
-unfolding controls
-rows-read m n t lattice h long range =
-    let last : t / 2 + t % 2 + 2 ≤ n + 3 = omega arith in
-    let l : (t / 2 + t % 2 + 2) * (m + 3) ≤ (m + 3) * (n + 3) = omega (arith, mul-le-mul-right (m + 3) last) in
-    record { stored = omega arith; ranged = λ i k. range i (omega arith) }
-
--- the part of the output that it is written to
-row-room : (m n t k : ℕ) (d : List ℤ) → controls (2 * m) (2 * n) ≤ length d → t < 2 * n + 3 → k ≡ t * (2 * m + 3) → k + (2 * m + 3) ≤ length d
-unfolding controls
-row-room m n t k d room h e = omega (arith, room, mul-le-mul-right (2 * m + 3) h)
-
 part-long : (k w : ℕ) (l : List ℤ) → k + w ≤ length l → w ≤ length (take (k + w - k) (drop k l))
 part-long k w l h = simp (length-take, length-drop) (omega arith)
 
@@ -56,21 +36,18 @@ row-step : (m t k : ℕ) (lattice d l v : List ℤ) → k ≡ t * (2 * m + 3) �
     → Filled m lattice d (k + (2 * m + 3)) (putMid k (k + (2 * m + 3) - k) l v)
 row-step m t k lattice d l v e h p q = record { is = whole; long = length-filled (k + (2 * m + 3)) (value m lattice) d h whole }
   where
-    entries : tabulate (2 * m + 3) (λ s. rule.refined (control m lattice) s t) ≡ tabulate (2 * m + 3) (λ i. value m lattice (k + i))
-    entries = rw e (tabulate-same (2 * m + 3) _ _ (λ s l. sym (at-place (2 * m) (rule.refined (control m lattice)) s t l)))
-
     gap : k + (2 * m + 3) - k ≡ 2 * m + 3
     gap = omega arith
 
     whole : putMid k (k + (2 * m + 3) - k) l v ≡ over (tabulate (k + (2 * m + 3)) (value m lattice)) d
     whole =
         ap (λ u. take k l ++ (v ++ u)) (post-is k (k + (2 * m + 3)) l (omega arith))
-        ∙ rw (q, gap, entries, p .is) (fill-part k (2 * m + 3) (value m lattice) d h)
+        ∙ rw (q, gap, row-values m t k lattice e, p .is) (fill-part k (2 * m + 3) (value m lattice) d h)
 
 turn-room : (c : tie.In-loop Inv-loop μ-loop) → c .before .loop .from + (2 * c .before .before .args .m + 3) ≤ length (c .before .before .args .output .now)
 turn-room c =
     let a = c .before .before .args in
-    row-room (a .m) (a .n) (c .before .loop .t) (c .before .loop .from) (a .output .now) (c .before .before .pre .3) (c .loop-test .taken) (c .before .loop .inv .1)
+    omega (arith, c .before .before .pre .3, c .before .loop .inv .1, row-below (a .m) (a .n) (c .before .loop .t) (c .loop-test .taken))
 
 -- ---- the needs
 
@@ -139,13 +116,10 @@ same-length : tie.Need-same-length Inv-loop μ-loop
 same-length c = c .before .loop .inv .3 .long
 
 returns : tie.Need-returns Inv-loop μ-loop
-unfolding store controls
 returns c =
     let l = c .before in
     let a = l .before .args in
-    let t : l .loop .t ≡ 2 * a .n + 3 = omega arith in
-    let e : l .loop .from ≡ (2 * a .m + 3) * (2 * a .n + 3) = l .loop .inv .1 ∙ ap (λ (k : ℕ). k * (2 * a .m + 3)) t ∙ omega arith in
-    l .loop .inv .3 .is ∙ ap (λ (k : ℕ). over (tabulate k (value (a .m) (a .lattice .now))) (a .output .now)) e
+    l .loop .inv .3 .is ∙ ap (λ r. over r (a .output .now)) (rows-stored (a .m) (a .n) (l .loop .t) (l .loop .from) (a .lattice .now) (omega arith) (l .loop .inv .1))
 
 pub refine-within-spec : {M : Type 1} → statement M
 refine-within-spec =

@@ -1,0 +1,341 @@
+/*
+ * The library's speed beside the same rules in C: the reference, built with gcc -O3 -ffp-contract=off for plain x86-64.
+ *
+ *   bench [seconds]
+ *
+ * Both run in this process on the same slices, in turns, for about so many seconds (1) a line, and the best processor time
+ * of each counts. The slices are warm, and not cleared between runs. Inputs are random points and lattices on a smooth ground.
+ */
+#include "../include/curlewtable.h"
+#include "../tests/common/basics.h"
+#include "../tests/common/call.h"
+#include "../tests/common/ground.h"
+#include "../tests/common/random.h"
+#include "../tests/reference/reference.h"
+
+#include <stdio.h>
+#include <stdlib.h>
+#include <string.h>
+
+#define LEAST_ROUNDS 10
+#define POSITIONS 5000                  /* heights in one run */
+
+enum { LIBRARY, C, SIDES };
+
+static double seconds_a_line = 1.0;
+
+/* ---- what is timed ---- */
+
+/* A call, and for heights the positions that it is made at. */
+typedef struct {
+    call call;
+    size_t x[POSITIONS], y[POSITIONS];
+} job;
+
+static uint64_t answer_of_call(const job *j, runner *run)
+{
+    return run(&j->call).field[FIRST];
+}
+
+/* Heights take so little time that they are called without a runner between; the sum keeps the calls from being dropped. */
+#define HEIGHTS(name, height_at)                                                                        \
+    static uint64_t name(const job *j, runner *run)                                                     \
+    {                                                                                                   \
+        const size_t *v = j->call.number;                                                               \
+        const slice of = j->call.slice[LATTICE];                                                        \
+        uint64_t sum = 0;                                                                               \
+        size_t i;                                                                                       \
+                                                                                                        \
+        (void)run;                                                                                      \
+        for (i = 0; i < POSITIONS; i++)                                                                 \
+            sum += (uint64_t)height_at(v[M], v[N], v[UNIT], of.at, of.length, j->x[i], j->y[i]).height; \
+        return sum;                                                                                     \
+    }
+
+HEIGHTS(heights_by_library, curlew_height_at)
+HEIGHTS(heights_by_c, ref_height_at)
+
+typedef uint64_t work(const job *j, runner *run);
+
+static uint64_t run_once(const job *j, int side)
+{
+    static work *const heights[SIDES] = { heights_by_library, heights_by_c };
+    static runner *const run[SIDES] = { run_library, run_reference };
+    work *of_job = j->call.function == HEIGHT_AT ? heights[side] : answer_of_call;
+
+    return of_job(j, run[side]);
+}
+
+/* Both must accept and agree, or the times mean nothing. */
+static void check(const job *j)
+{
+    const answer left = run_library(&j->call), right = run_reference(&j->call);
+
+    if (left.field[NUMBER] != 0 || memcmp(&left, &right, sizeof left) != 0
+        || run_once(j, LIBRARY) != run_once(j, C)) {
+        fprintf(stderr, "%s: refused, or the two differ\n", shapes[j->call.function].name);
+        exit(1);
+    }
+}
+
+/* The best times of the two, in seconds. */
+static void time_both(const job *j, double best[SIDES])
+{
+    const double end = now() + seconds_a_line;
+    size_t round;
+    int side;
+
+    check(j);
+    best[LIBRARY] = best[C] = 1e9;
+    for (round = 0; round < LEAST_ROUNDS || now() < end; round++) {
+        for (side = 0; side < SIDES; side++) {
+            const double start = processor_time();
+            double taken;
+
+            run_once(j, side);
+            taken = processor_time() - start;
+            if (taken < best[side])
+                best[side] = taken;
+        }
+    }
+}
+
+/* ---- inputs ---- */
+
+static job *new_job(function f, size_t m, size_t n)
+{
+    job *j = room(1, sizeof *j);
+
+    j->call.function = f;
+    j->call.number[M] = m;
+    j->call.number[N] = n;
+    return j;
+}
+
+static void free_job(job *j)
+{
+    role r;
+    for (r = X; r < SLICES; r++)
+        free(j->call.slice[r].at);
+    free(j);
+}
+
+static void lend(job *j, role r, size_t places)
+{
+    j->call.slice[r].at = room(places, element_size[r]);
+    j->call.slice[r].length = places;
+}
+
+/* Random points of a grid with the ground's heights. */
+static void lend_points(job *j, size_t h, size_t points)
+{
+    generator g = generator_of(1, points);
+    const size_t far_x = 16 * CURLEW_CELLS(j->call.number[M], h), far_y = 16 * CURLEW_CELLS(j->call.number[N], h);
+    uint16_t *x, *y;
+    int64_t *z;
+    size_t at;
+
+    j->call.number[H] = h;
+    lend(j, X, points);
+    lend(j, Y, points);
+    lend(j, Z, points);
+    x = j->call.slice[X].at;
+    y = j->call.slice[Y].at;
+    z = j->call.slice[Z].at;
+    for (at = 0; at < points; at++) {
+        x[at] = (uint16_t)below(&g, far_x + 1);
+        y[at] = (uint16_t)below(&g, far_y + 1);
+        z[at] = ground((double)x[at] / (double)far_x, (double)y[at] / (double)far_y);
+    }
+}
+
+/* A lattice that follows the ground, give or take a millimetre. */
+static void lend_lattice(job *j)
+{
+    generator g = generator_of(2, j->call.number[M]);
+    const size_t across = j->call.number[M] + 3, down = j->call.number[N] + 3;
+    int64_t *values;
+    size_t at;
+
+    lend(j, LATTICE, across * down);
+    values = j->call.slice[LATTICE].at;
+    for (at = 0; at < across * down; at++)
+        values[at] = ground((double)(at % across) / (double)across, (double)(at / across) / (double)down)
+                     + between(&g, -1000, 1000);
+}
+
+static job *fit_job(size_t cells, size_t h, size_t points)
+{
+    job *j = new_job(FIT, cells, cells);
+
+    lend_points(j, h, points);
+    lend(j, LATTICE, CURLEW_FIT_LATTICE(cells, cells, h));
+    lend(j, RESIDUAL, points);
+    lend(j, WHOLE, CURLEW_FIT_WHOLE(cells, cells, h, points));
+    lend(j, FLOATS, CURLEW_FIT_FLOATS(cells, cells, h));
+    return j;
+}
+
+static job *height_job(size_t cells)
+{
+    generator g = generator_of(3, cells);
+    job *j = new_job(HEIGHT_AT, cells, cells);
+    size_t at;
+
+    j->call.number[UNIT] = 16;
+    lend_lattice(j);
+    for (at = 0; at < POSITIONS; at++) {
+        j->x[at] = below(&g, 16 * cells + 1);
+        j->y[at] = below(&g, 16 * cells + 1);
+    }
+    return j;
+}
+
+static job *raster_job(size_t cells, size_t step)
+{
+    job *j = new_job(RASTER, cells, cells);
+    size_t *v = j->call.number;
+
+    v[UNIT] = 16;
+    v[STEP] = step;
+    v[COLUMNS] = v[ROWS] = 16 * cells / step + 1;
+    lend_lattice(j);
+    lend(j, VALUES, v[COLUMNS] * v[ROWS]);
+    return j;
+}
+
+static job *refine_job(size_t cells)
+{
+    job *j = new_job(REFINE, cells, cells);
+
+    lend_lattice(j);
+    lend(j, VALUES, CURLEW_CONTROLS(2 * cells, 2 * cells));
+    return j;
+}
+
+static job *write_lattice_job(size_t cells)
+{
+    job *j = new_job(WRITE_LATTICE, cells, cells);
+
+    lend_lattice(j);
+    lend(j, BYTES, CURLEW_LATTICE_FILE(cells, cells));
+    return j;
+}
+
+static job *write_points_job(size_t points)
+{
+    job *j = new_job(WRITE_POINTS, 16, 16);
+
+    lend_points(j, 5, points);
+    lend(j, BYTES, CURLEW_POINT_FILE(points));
+    return j;
+}
+
+/* Turns a job that writes a file into one that reads it. */
+static job *reading(job *j)
+{
+    run_reference(&j->call);
+    if (j->call.function == WRITE_LATTICE) {
+        lend(j, VALUES, j->call.slice[LATTICE].length);
+        j->call.function = READ_LATTICE;
+    } else {
+        j->call.function = READ_POINTS;
+    }
+    return j;
+}
+
+/* ---- tables ---- */
+
+static void print_time(double seconds)
+{
+    if (seconds < 1e-4)
+        printf("%12.1f ns", 1e9 * seconds);
+    else
+        printf("%12.3f ms", 1e3 * seconds);
+}
+
+/* A line of the first table; runs is how many calls one run makes. */
+static void line(const char *what, job *j, size_t runs)
+{
+    double best[SIDES];
+
+    time_both(j, best);
+    printf("%-52s", what);
+    print_time(best[LIBRARY] / (double)runs);
+    print_time(best[C] / (double)runs);
+    printf("%9.2f\n", best[LIBRARY] / best[C]);
+    fflush(stdout);
+    free_job(j);
+}
+
+/* One fit of a table of growth: p or K, and the library's time. */
+typedef struct {
+    size_t size;
+    double time;
+} fitted;
+
+/* A line of a table of growth. What each more of p or K costs the library is the same all along if the growth is linear. */
+static fitted growth_line(size_t cells, size_t points, size_t size, fitted before)
+{
+    job *j = fit_job(cells, 5, points);
+    double best[SIDES];
+    fitted this_one = { size, 0 };
+
+    time_both(j, best);
+    this_one.time = best[LIBRARY];
+    printf("%12zu", size);
+    print_time(best[LIBRARY]);
+    print_time(best[C]);
+    printf("%9.2f", best[LIBRARY] / best[C]);
+    if (before.size > 0)
+        print_time((this_one.time - before.time) / (double)(size - before.size));
+    printf("\n");
+    fflush(stdout);
+    free_job(j);
+    return this_one;
+}
+
+static void calls_table(void)
+{
+    printf("%-52s%15s%15s%9s\n", "call", "library", "C", "ratio");
+    line("fit, 500 points, 1 x 1, h = 4", fit_job(1, 4, 500), 1);
+    line("fit, 5,000 points, 4 x 4, h = 5", fit_job(4, 5, 5000), 1);
+    line("fit, 65,535 points, 16 x 16, h = 5", fit_job(16, 5, 65535), 1);
+    line("height, 1 x 1", height_job(1), POSITIONS);
+    line("height, 64 x 64 (a scan of 4,489 values)", height_job(64), POSITIONS);
+    line("raster, 2,049 x 2,049 nodes of 512 x 512", raster_job(512, 4), 1);
+    line("refine, 256 x 256 to 512 x 512", refine_job(256), 1);
+    line("write_lattice, 512 x 512 (2,123,870 bytes)", write_lattice_job(512), 1);
+    line("read_lattice, 512 x 512", reading(write_lattice_job(512)), 1);
+    line("write_points, 65,535 points (917,498 bytes)", write_points_job(65535), 1);
+    line("read_points, 65,535 points", reading(write_points_job(65535)), 1);
+}
+
+static void growth_tables(void)
+{
+    static const size_t points[] = { 1000, 4000, 16000, 32000, 65535 }, cells[] = { 1, 2, 4, 8, 16 };
+    const fitted none = { 0, 0 };
+    fitted before = none;
+    size_t i;
+
+    printf("\nfit of p points, 4 x 4, h = 5 (K = %zu)\n%12s%15s%15s%9s%15s\n",
+           CURLEW_FIT_LATTICE(4, 4, 5), "p", "library", "C", "ratio", "each more");
+    for (i = 0; i < COUNT(points); i++)
+        before = growth_line(4, points[i], points[i], before);
+    printf("\nfit of K control values, 1 x 1 to 16 x 16, h = 5, 500 points\n%12s%15s%15s%9s%15s\n",
+           "K", "library", "C", "ratio", "each more");
+    before = none;
+    for (i = 0; i < COUNT(cells); i++)
+        before = growth_line(cells[i], 500, CURLEW_FIT_LATTICE(cells[i], cells[i], 5), before);
+}
+
+int main(int argc, char **argv)
+{
+    if (argc > 2 || (argc == 2 && (seconds_a_line = strtod(argv[1], NULL)) <= 0)) {
+        fprintf(stderr, "usage: bench [seconds]\n");
+        return 2;
+    }
+    calls_table();
+    growth_tables();
+    return 0;
+}

@@ -1,0 +1,2 @@
+mod Partly
+mod Tested

@@ -1,0 +1,56 @@
+-- A step that tests each value before it lays it: it is refused at the first that is out of range, and what it did not reach is as it was.
+use mathlib.Core.Path.{_≡_, refl, sym, ap, subst, _∙_}
+use mathlib.Core.Bool.{Bool, true, false, not}
+use mathlib.Core.List.{List}
+use Prim.Native.Nat.{ℕ, _+_, _≤_, _<_}
+use native.Mathlib.Omega.{arith}
+use borrow.Author.Tests.{not-true, not-false}
+use lib.Dec.{T}
+use lib.IntN.{ℤ, pos}
+use lib.ListN.{length, getD, drop, set}
+use Rattle.algebra.specs.Table.{tabulate, laid, getD-tabulate}
+use Rattle.rules.specs.Grid.{inRange}
+use Rattle.rules.specs.Answers.{Refusal, rangeCheck, firstOf}
+use Rattle.rules.specs.Laws.Checks.{NoneOut, noneOut-more, noneOut-at}
+use Rattle.fit_steps.specs.Steps.{okCheck}
+use Rattle.fit_steps.proofs.Partly.{Partly, begun, stored, rest-kept, finished}
+
+-- l is the scratch d with the first i of count values f laid from n on, none of them out of range
+pub record Tested (n count i : ℕ) (f : ℕ → ℤ) (d l : List ℤ) : Type 0 where
+  pub within : i ≤ count
+  pub partly : Partly n i f d l
+  pub none-out : NoneOut i (tabulate count f)
+
+-- what the step answers, and what it leaves
+abbrev pub Ends : Bool → ℕ → ℕ → (ℕ → ℤ) → List ℤ → List ℤ → Type 0
+Ends ok n count f d l =
+    ((r : Refusal) → rangeCheck count (tabulate count f) (λ i. r) ≡ okCheck ok r)
+    × ((T ok → l ≡ laid n (tabulate count f) d) × ((length l ≡ length d) × (drop (n + count) l ≡ drop (n + count) d)))
+
+pub untested : (n count : ℕ) (f : ℕ → ℤ) (d : List ℤ) → Tested n count 0 f d d
+unfolding rangeCheck firstOf
+untested n count f d = record { within = omega arith; partly = begun n 0 f d refl; none-out = λ r. refl }
+
+module _ {n count i : ℕ} {f : ℕ → ℤ} {d l : List ℤ} (p : Tested n count i f d l) (room : n + count ≤ length d) where
+  rest : drop (n + count) l ≡ drop (n + count) d
+  rest = rest-kept (p .partly) (n + count) (omega arith) (omega (arith, p .within))
+
+  -- x is the next value, and b what `in_range` says of it
+  module _ {x : ℤ} {b : Bool} (h : i < count) (is : x ≡ f i) (told : b ≡ inRange x) where
+    test : b ≡ inRange (getD (tabulate count f) i (pos 0))
+    test = told ∙ ap inRange (is ∙ sym (getD-tabulate count f i (pos 0) h))
+
+    pub passed : not b ≡ false → Tested n count (i + 1) f d (set l (n + i) x)
+    passed t = record {
+      within = omega arith;
+      partly = stored (p .partly) (omega arith) is;
+      none-out = noneOut-more i (tabulate count f) (p .none-out) (subst T (sym (not-false b t) ∙ test) tt);
+    }
+
+    pub refused : not b ≡ true → Ends false n count f d l
+    refused t = (λ r. noneOut-at count i (tabulate count f) (p .none-out) h (sym test ∙ not-true b t) (λ i. r), (λ t. absurd t, (p .partly .long, rest)))
+
+  pub accepted : count ≤ i → Ends true n count f d l
+  accepted h =
+      let e : i ≡ count = omega (arith, p .within) in
+      (λ r. rw e at (p .none-out (λ i. r)), (λ t. finished (p .partly) e refl, (p .partly .long, rest)))

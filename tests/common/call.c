@@ -1,0 +1,38 @@
+/*
+ * The table of what each function of the library takes.
+ */
+#include "call.h"
+
+#define BIT(place) (1u << (place))
+#define CELLS (BIT(M) | BIT(N))
+#define POINTS (BIT(X) | BIT(Y) | BIT(Z))
+#define FITTED (BIT(LATTICE) | BIT(RESIDUAL) | BIT(WHOLE) | BIT(FLOATS))
+#define NODES (BIT(AT_X) | BIT(AT_Y) | BIT(STEP) | BIT(COLUMNS) | BIT(ROWS))
+
+const shape shapes[FUNCTIONS] = {
+    [FIT] = { "fit", 16, CELLS | BIT(H), POINTS | FITTED, FITTED },
+    [HEIGHT_AT] = { "height_at", 512, CELLS | BIT(UNIT) | BIT(AT_X) | BIT(AT_Y), BIT(LATTICE), 0 },
+    [REFINE] = { "refine", 256, CELLS, BIT(LATTICE) | BIT(VALUES), BIT(VALUES) },
+    [RASTER] = { "raster", 512, CELLS | BIT(UNIT) | NODES, BIT(LATTICE) | BIT(VALUES), BIT(VALUES) },
+    [READ_LATTICE] = { "read_lattice", 0, 0, BIT(BYTES) | BIT(VALUES), BIT(VALUES) },
+    [WRITE_LATTICE] = { "write_lattice", 512, CELLS, BIT(LATTICE) | BIT(BYTES), BIT(BYTES) },
+    [READ_POINTS] = { "read_points", 0, 0, BIT(BYTES) | POINTS, POINTS },
+    [WRITE_POINTS] = { "write_points", 16, CELLS | BIT(H), POINTS | BIT(BYTES), BIT(BYTES) },
+};
+
+const char *const role_names[SLICES] = {
+    [X] = "x", [Y] = "y", [Z] = "z", [LATTICE] = "lattice", [RESIDUAL] = "residual", [WHOLE] = "whole scratch",
+    [FLOATS] = "f64 scratch", [VALUES] = "values", [BYTES] = "bytes",
+};
+
+const char *number_name(function f, unsigned place)
+{
+    static const char *const names[NUMBERS] = { "m", "n", "unit", "x", "y", "step", "columns", "rows" };
+    return place == H && takes(f, Z) ? "h" : names[place];
+}
+
+const size_t element_size[SLICES] = {
+    [X] = sizeof(uint16_t), [Y] = sizeof(uint16_t), [Z] = sizeof(int64_t), [LATTICE] = sizeof(int64_t),
+    [RESIDUAL] = sizeof(int64_t), [WHOLE] = sizeof(int64_t), [FLOATS] = sizeof(double), [VALUES] = sizeof(int64_t),
+    [BYTES] = sizeof(uint8_t),
+};

@@ -1,0 +1,83 @@
+/*
+ * A call of the library as data: its function, its numbers and its slices. So one piece of code can run any call on
+ * either implementation, lend any slice with guard zones, and compare all that comes back.
+ */
+#ifndef CALL_H
+#define CALL_H
+
+#include <stddef.h>
+#include <stdint.h>
+
+typedef enum {
+    FIT,
+    HEIGHT_AT,
+    REFINE,
+    RASTER,
+    READ_LATTICE,
+    WRITE_LATTICE,
+    READ_POINTS,
+    WRITE_POINTS,
+    FUNCTIONS
+} function;
+
+/* The places of a call's numbers, in the header's order. Fits have h where lattices have their unit. */
+enum { M, N, H, UNIT = H, AT_X, AT_Y, STEP, COLUMNS, ROWS, NUMBERS };
+
+/* The slices, by what they hold. VALUES and BYTES are what the header calls output; BYTES is also the readers' file. */
+typedef enum { X, Y, Z, LATTICE, RESIDUAL, WHOLE, FLOATS, VALUES, BYTES, SLICES } role;
+
+typedef struct {
+    void *at;
+    size_t length;              /* in elements */
+} slice;
+
+typedef struct {
+    function function;
+    size_t number[NUMBERS];
+    slice slice[SLICES];
+} call;
+
+/* An answer's fields in the header's order; those that a function's answer lacks are 0. */
+enum { NUMBER, PLACE, FIRST, SECOND, FIELDS = 6 };
+
+typedef struct {
+    uint64_t field[FIELDS];
+} answer;
+
+typedef answer runner(const call *c);
+
+runner run_library, run_reference;
+
+/* What a function takes. The sets are bit sets, 1 << place or 1 << role. */
+typedef struct {
+    const char *name;
+    size_t most_cells;          /* a side; 0 where the function takes no cell counts */
+    unsigned numbers;
+    unsigned slices;
+    unsigned written;           /* those of the slices that it may write */
+} shape;
+
+extern const shape shapes[FUNCTIONS];
+
+extern const char *const role_names[SLICES];
+
+/* What a function calls the number at this place. */
+const char *number_name(function f, unsigned place);
+
+/* Bytes of an element. */
+extern const size_t element_size[SLICES];
+
+static inline int takes(function f, role r)
+{
+    return (shapes[f].slices >> r & 1) != 0;
+}
+
+static inline int writes(function f, role r)
+{
+    return (shapes[f].written >> r & 1) != 0;
+}
+
+/* The refusals are numbered 1 to 12, and 0 is an acceptance. */
+enum { MOST_NUMBER = 12 };
+
+#endif

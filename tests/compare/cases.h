@@ -1,0 +1,42 @@
+/*
+ * The kinds of cases that compare draws from. Each makes one random case, runs it as one or more trials, and ends the
+ * process at a difference.
+ */
+#ifndef CASES_H
+#define CASES_H
+
+#include "inputs.h"
+
+typedef void test_case(generator *g, size_class size);
+
+/*
+ * The surface engine. The fits of range_end_case are the last that 7 lets pass and the first that it refuses; those of
+ * tie_case have quotients that are exact halves.
+ */
+test_case fit_case, range_end_case, tie_case, height_case, refine_case, raster_case;
+
+/* The two files: written, then read back whole or damaged. */
+test_case lattice_file_case, point_file_case;
+
+/*
+ * Fits whose heights are held to demand 3: of small grids at every position; such that refine without rounding; and of
+ * faint heights at grid nodes, where all roundings are halves often enough for the most distance that is allowed.
+ */
+test_case demand3_case, exact_case, half_case;
+
+/* Makes a fit of the draft's grid and points, with nothing too short. */
+void lend_fit(generator *g, draft *d);
+
+/* The number of points that suits a size. */
+size_t some_point_count(generator *g, size_class size);
+
+/* Every cut of small files, and every byte of them changed to every value, or to a few. */
+void every_file_damage(int few_values);
+
+/* The examples of document 01, each by its printed values; returns how many there are. */
+size_t run_examples(void);
+
+/* What the demand 3 cases saw. */
+void print_demand3(void);
+
+#endif

@@ -1,0 +1,297 @@
+/*
+ * Random cases of the surface engine: fits, heights, refinements, rasters.
+ */
+#include "cases.h"
+#include "trial.h"
+
+#include "../../include/curlewtable.h"
+
+#define MOST_STEP 8192
+#define MOST_NODES 8193
+
+/* ---- fits ---- */
+
+size_t some_point_count(generator *g, size_class size)
+{
+    if (size == LARGEST)
+        return 65535;
+    if (size == MEDIUM)
+        return once_in(g, 16) ? 65535 : below(g, 2000);
+    return once_in(g, 10) ? below(g, 80) : below(g, 12);
+}
+
+void lend_fit(generator *g, draft *d)
+{
+    const size_t *v = d->call.number, points = d->exact[Z];
+
+    lend(g, d, LATTICE, CURLEW_FIT_LATTICE(v[M], v[N], v[H]));
+    lend(g, d, RESIDUAL, points);
+    lend(g, d, WHOLE, CURLEW_FIT_WHOLE(v[M], v[N], v[H], points));
+    lend(g, d, FLOATS, CURLEW_FIT_FLOATS(v[M], v[N], v[H]));
+}
+
+void fit_case(generator *g, size_class size)
+{
+    draft d = new_draft(FIT);
+
+    some_fit_grid(g, &d, size);
+    some_points(g, &d, some_point_count(g, size));
+    lend_fit(g, &d);
+    some_troubles(g, &d, points_trouble);
+    trial(&d.call);
+}
+
+/* ---- fits at the very end of the range ---- */
+
+#define MOST_SHARES 6
+
+/* Each height is its share, so many eighths, of the size. */
+static void set_heights(draft *d, const int64_t share[MOST_SHARES], int64_t size)
+{
+    int64_t *z = d->call.slice[Z].at;
+    size_t at;
+
+    for (at = 0; at < d->exact[Z]; at++)
+        z[at] = size * share[at] / 8;
+}
+
+/* A size whose fit is accepted while the next one's is refused by 7; LIMIT if none was found. */
+static int64_t last_accepted(draft *d, const int64_t share[MOST_SHARES])
+{
+    int64_t accepted = 0, refused = LIMIT + 1;
+
+    while (refused - accepted > 1) {
+        const int64_t size = accepted + (refused - accepted) / 2;
+        set_heights(d, share, size);
+        if (run_reference(&d->call).field[NUMBER] == 0)
+            accepted = size;
+        else
+            refused = size;
+    }
+    return accepted;
+}
+
+void range_end_case(generator *g, size_class size)
+{
+    draft d = new_draft(FIT);
+    int64_t share[MOST_SHARES], last, near;
+    size_t at;
+
+    (void)size;
+    some_fit_grid(g, &d, SMALL);
+    some_points(g, &d, 1 + below(g, MOST_SHARES));
+    for (at = 0; at < MOST_SHARES; at++)
+        share[at] = at == 0 ? 8 : between(g, -8, 8);
+    lend_fit(g, &d);
+    last = last_accepted(&d, share);
+    for (near = last - 1; near <= last + 2 && near <= LIMIT; near++) {
+        set_heights(&d, share, near);
+        lend_fit(g, &d);                        /* noise again */
+        trial(&d.call);
+    }
+}
+
+/* ---- fits whose quotients are halves ---- */
+
+/*
+ * Points of one place, so many sixteenths into a cell of the coarsest grid. With so many of them, and heights that are
+ * such multiples, quotients of level 0 are whole numbers and halves. So the last bit of the f64 arithmetic decides how they
+ * round, and any other order of its operations shows. (The order of S shows at 12 sixteenths, not at 0 and 8.)
+ */
+static const struct {
+    size_t x, y, points;
+    int64_t multiple;
+} ties[] = {
+    { 0, 0, 2, 9 }, { 0, 8, 8, 265 }, { 8, 0, 8, 265 }, { 8, 8, 32, 70225 },
+    { 0, 12, 64, 17649 }, { 12, 0, 64, 17649 }, { 8, 12, 256, 519665 }, { 12, 8, 256, 519665 },
+};
+
+/*
+ * Random multiples for heights. Some of the faint lists sum to one multiple, so that the faintest quotient is 1/2 or beside
+ * it: just below 1/2, adding 1/2 in f64 would give 1.
+ */
+static void set_multiples(generator *g, int64_t *z, size_t points, int64_t multiple)
+{
+    const int faint = once_in(g, 2);
+    const int64_t most = faint ? 2 : 1000;
+    int64_t sum = 0;
+    size_t at;
+
+    for (at = 0; at < points; at++) {
+        z[at] = multiple * between(g, -most, most);
+        sum += z[at];
+    }
+    if (faint && once_in(g, 2))
+        z[0] += multiple - sum;
+}
+
+void tie_case(generator *g, size_class size)
+{
+    const size_t tie = below(g, COUNT(ties)), points = ties[tie].points;
+    draft d = new_draft(FIT);
+    uint16_t *x = d.call.slice[X].at, *y = d.call.slice[Y].at;
+    size_t unit, at;
+
+    (void)size;
+    some_fit_grid(g, &d, SMALL);
+    some_points(g, &d, points);
+    unit = (size_t)16 << d.call.number[H];
+    x[0] = (uint16_t)(unit * below(g, d.call.number[M]) + ties[tie].x * unit / 16);
+    y[0] = (uint16_t)(unit * below(g, d.call.number[N]) + ties[tie].y * unit / 16);
+    for (at = 1; at < points; at++) {
+        x[at] = x[0];
+        y[at] = y[0];
+    }
+    set_multiples(g, d.call.slice[Z].at, points, ties[tie].multiple);
+    lend_fit(g, &d);
+    trial(&d.call);
+}
+
+/* ---- heights ---- */
+
+/* A position, often on a grid line or at an edge. */
+static size_t some_place(generator *g, size_t far, size_t unit)
+{
+    switch (below(g, 5)) {
+    case 0:
+        return far;
+    case 1:
+        return unit * below(g, far / unit + 1);
+    case 2:
+        return once_in(g, 2) ? 0 : far - 1;
+    default:
+        return below(g, far + 1);
+    }
+}
+
+/* Moves a height's position, or a raster's first node, outside. */
+static void place_outside(generator *g, draft *d)
+{
+    const int along_x = once_in(g, 2);
+    const size_t far = along_x ? d->far_x : d->far_y;
+
+    d->call.number[along_x ? AT_X : AT_Y] = once_in(g, 2) ? far + 1 : wrong_number(g, below(g, far + 1));
+}
+
+/* One trouble of a call with a lattice that is read with a unit. */
+static void height_trouble(generator *g, draft *d)
+{
+    switch (below(g, 5)) {
+    case 0:
+        d->call.number[UNIT] = wrong_unit(g);
+        break;
+    case 1:
+        place_outside(g, d);
+        break;
+    default:
+        some_trouble(g, d);
+        break;
+    }
+}
+
+/* A lattice to be read with a unit, and a position of it. */
+static draft some_surface(generator *g, function f, size_class size)
+{
+    draft d = new_draft(f);
+    size_t *v = d.call.number;
+
+    some_cells(g, &d, size);
+    some_lattice(g, &d);
+    v[UNIT] = some_unit(g);
+    set_far_edges(&d);
+    v[AT_X] = some_place(g, d.far_x, v[UNIT]);
+    v[AT_Y] = some_place(g, d.far_y, v[UNIT]);
+    return d;
+}
+
+void height_case(generator *g, size_class size)
+{
+    draft d = some_surface(g, HEIGHT_AT, size);
+
+    some_troubles(g, &d, height_trouble);
+    trial(&d.call);
+}
+
+/* ---- refinements ---- */
+
+void refine_case(generator *g, size_class size)
+{
+    draft d = new_draft(REFINE);
+
+    some_cells(g, &d, size);
+    some_lattice(g, &d);
+    lend(g, &d, VALUES, CURLEW_CONTROLS(2 * d.call.number[M], 2 * d.call.number[N]));
+    some_troubles(g, &d, some_trouble);
+    trial(&d.call);
+}
+
+/* ---- rasters ---- */
+
+static size_t some_step(generator *g, size_t unit)
+{
+    const size_t steps[] = { 0, 1, 2, 3, 7, 16, unit, unit / 2, unit + 1, MOST_STEP, MOST_STEP - 1 };
+    return once_in(g, 4) ? below(g, MOST_STEP + 1) : steps[below(g, COUNT(steps))];
+}
+
+/* Columns or rows: most often as many as fit from start to far, sometimes one too many, sometimes none. */
+static size_t some_nodes(generator *g, size_t start, size_t far, size_t step, size_t most)
+{
+    const size_t fit = (far - start) / (step == 0 ? 16 : step) + 1;
+    const size_t nodes = fit < most ? fit : most;
+
+    switch (below(g, 12)) {
+    case 0:
+        return 0;
+    case 1:
+        return nodes < MOST_NODES ? nodes + 1 : nodes;
+    case 2:
+    case 3:
+    case 4:
+    case 5:
+        return nodes;
+    default:
+        return 1 + below(g, nodes);
+    }
+}
+
+static void raster_trouble(generator *g, draft *d)
+{
+    size_t *v = d->call.number;
+
+    switch (below(g, 7)) {
+    case 0:
+        v[STEP] = once_in(g, 2) ? MOST_STEP + 1 : wrong_number(g, v[STEP]);
+        break;
+    case 1:
+        v[once_in(g, 2) ? COLUMNS : ROWS] = once_in(g, 2) ? MOST_NODES + 1 : wrong_number(g, 1);
+        break;
+    case 2:                                     /* allowed, but more nodes than are lent */
+        v[COLUMNS] = v[ROWS] = MOST_NODES;
+        break;
+    case 3:                                     /* so far outside that a later node comes round to the grid again */
+        v[once_in(g, 2) ? AT_X : AT_Y] = (size_t)0 - (v[STEP] == 0 ? 16 : v[STEP]) * below(g, 3);
+        break;
+    default:
+        height_trouble(g, d);
+        break;
+    }
+}
+
+void raster_case(generator *g, size_class size)
+{
+    const size_t most = size == SMALL ? 12 : MOST_NODES;
+    draft d = some_surface(g, RASTER, size);
+    size_t *v = d.call.number, room;
+
+    v[STEP] = some_step(g, v[UNIT]);
+    if (size != SMALL && once_in(g, 2))         /* the most nodes that there are along one axis */
+        v[STEP] = v[AT_X] = v[AT_Y] = 1;
+    v[COLUMNS] = some_nodes(g, v[AT_X], d.far_x, v[STEP], most);
+    room = (capacity[VALUES] - 200) / (v[COLUMNS] + 1) - 1;
+    if (size == MEDIUM)
+        room = room / 10 + 1;
+    v[ROWS] = some_nodes(g, v[AT_Y], d.far_y, v[STEP], room < most ? room : most);
+    lend(g, &d, VALUES, v[COLUMNS] * v[ROWS]);
+    some_troubles(g, &d, raster_trouble);
+    trial(&d.call);
+}

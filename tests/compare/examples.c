@@ -1,0 +1,265 @@
+/*
+ * The examples of document 01 ("Table of checked examples") and a few more with known answers, each as a trial whose
+ * answer and results are held to the printed values.
+ */
+#include "cases.h"
+#include "trial.h"
+
+#include "../../include/curlewtable.h"
+
+#include <string.h>
+
+static generator g = { 1 };
+static size_t examples;
+
+static void begin(const char *name)
+{
+    trial_name(name, 1);
+    examples++;
+}
+
+static void need(const draft *d, int holds)
+{
+    if (!holds)
+        trial_failed(&d->call, "not the example's result");
+}
+
+/* Runs the call, whose answer must be these two numbers and these first two fields. */
+static void expect(const draft *d, uint64_t number, uint64_t place, uint64_t first, uint64_t second)
+{
+    const answer a = trial(&d->call);
+    need(d, a.field[NUMBER] == number && a.field[PLACE] == place && a.field[FIRST] == first && a.field[SECOND] == second);
+}
+
+static const int64_t *values_of(const draft *d, role r)
+{
+    return d->call.slice[r].at;
+}
+
+/* ---- fits ---- */
+
+/* A fit of 1 by 1 coarsest cells. */
+static draft fit_of(size_t h, const uint16_t *x, const uint16_t *y, const int64_t *z, size_t points)
+{
+    draft d = new_draft(FIT);
+
+    d.call.number[M] = d.call.number[N] = 1;
+    d.call.number[H] = h <= 5 ? h : 5;          /* the lengths for h = 5 do for an h that is refused */
+    some_points(&g, &d, points);
+    memcpy(d.call.slice[X].at, x, points * sizeof *x);
+    memcpy(d.call.slice[Y].at, y, points * sizeof *y);
+    memcpy(d.call.slice[Z].at, z, points * sizeof *z);
+    lend_fit(&g, &d);
+    d.call.number[H] = h;
+    return d;
+}
+
+static draft fit_of_one(size_t h, uint16_t x, int64_t z)
+{
+    const uint16_t y = 0;
+    return fit_of(h, &x, &y, &z, 1);
+}
+
+static void fit_example(const char *name, size_t h, uint16_t x, int64_t z, uint64_t number)
+{
+    const draft d = fit_of_one(h, x, z);
+    const uint64_t cells = number == 0 ? UINT64_C(1) << h : 0;
+
+    begin(name);
+    expect(&d, number, 0, cells, cells);
+}
+
+static void lone_point(void)
+{
+    static const int64_t lattice[16] = { 1, 4, 1, 0, 4, 16, 4, 0, 1, 4, 1, 0, 0, 0, 0, 0 };
+    const draft d = fit_of_one(0, 0, 9);
+
+    begin("fit of the lone point (0, 0, 9)");
+    expect(&d, 0, 0, 1, 1);
+    need(&d, memcmp(values_of(&d, LATTICE), lattice, sizeof lattice) == 0 && values_of(&d, RESIDUAL)[0] == 0);
+}
+
+/* A residual and a sum that both leave the range in level 1. */
+static void refused_in_level_1(void)
+{
+    static const uint16_t x[] = { 21, 21, 30, 12, 10, 15 }, y[] = { 24, 22, 13, 23, 9, 30 };
+    static const int64_t z[] = { -3970333579, 1489305574, 3501600967, -2550897526, -3825073091, 3081664388 };
+    const draft d = fit_of(1, x, y, z, COUNT(z));
+
+    begin("fit refused in level 1");
+    expect(&d, 7, 1, 0, 0);
+}
+
+static void no_points(void)
+{
+    static const int64_t zero[25];
+    static const uint16_t position;
+    const draft d = fit_of(1, &position, &position, zero, 0);
+
+    begin("fit of no points");
+    expect(&d, 0, 0, 2, 2);
+    need(&d, memcmp(values_of(&d, LATTICE), zero, sizeof zero) == 0);
+}
+
+static void fit_examples(void)
+{
+    lone_point();
+    fit_example("fit of z 2,200,000,000", 0, 0, 2200000000, 0);
+    fit_example("fit of z 2,300,000,000", 0, 0, 2300000000, 7);
+    fit_example("fit of x 16", 0, 16, 9, 0);
+    fit_example("fit of x 17", 0, 17, 9, 5);
+    fit_example("fit of h 5", 5, 0, 9, 0);
+    fit_example("fit of h 6", 6, 0, 9, 2);
+    refused_in_level_1();
+    no_points();
+}
+
+/* ---- heights, refinements, rasters: a lattice with one control value that is not 0 ---- */
+
+static draft single_value(function f, size_t m, int i, int j, int64_t value)
+{
+    draft d = new_draft(f);
+    int64_t *lattice = d.call.slice[LATTICE].at;
+
+    d.call.number[M] = m;
+    d.call.number[N] = 1;
+    d.call.number[UNIT] = 16;
+    some_lattice(&g, &d);
+    memset(lattice, 0, CURLEW_CONTROLS(m, 1) * sizeof *lattice);
+    lattice[(size_t)(j + 1) * (m + 3) + (size_t)(i + 1)] = value;
+    return d;
+}
+
+static void height_example(const char *name, int i, int j, int64_t value, size_t at, uint64_t height)
+{
+    draft d = single_value(HEIGHT_AT, 1, i, j, value);
+
+    begin(name);
+    d.call.number[AT_X] = d.call.number[AT_Y] = at;
+    expect(&d, 0, 0, height, 0);
+}
+
+/* New control values (i, i) of the refinement, and how many are not 0 if that is known. */
+static draft refined(const char *name, int64_t value)
+{
+    draft d = single_value(REFINE, 1, 0, 0, value);
+
+    begin(name);
+    lend(&g, &d, VALUES, CURLEW_CONTROLS(2, 2));
+    expect(&d, 0, 0, 2, 2);
+    return d;
+}
+
+static int64_t refined_at(const draft *d, int i, int j)
+{
+    return values_of(d, VALUES)[(j + 1) * 5 + (i + 1)];
+}
+
+static void refine_examples(void)
+{
+    draft d = refined("E6", 64);
+    int at, others = 0;
+
+    need(&d, refined_at(&d, 0, 0) == 36 && refined_at(&d, 1, 0) == 24 && refined_at(&d, 1, 1) == 16
+             && refined_at(&d, 2, 2) == 1 && refined_at(&d, 3, 3) == 0);
+    d = refined("E7", 1);
+    for (at = 0; at < 25; at++)
+        others += values_of(&d, VALUES)[at] != 0;
+    need(&d, refined_at(&d, 0, 0) == 1 && others == 1);
+    d = refined("E8", -32);
+    need(&d, refined_at(&d, 2, 2) == 0);
+}
+
+/* Two nodes of a row, one at each edge of 16 cells of 512 positions. */
+static void raster_example(const char *name, size_t step, uint64_t number)
+{
+    draft d = single_value(RASTER, 16, 0, 0, 36);
+    size_t *v = d.call.number;
+
+    begin(name);
+    v[UNIT] = 512;
+    v[STEP] = step;
+    v[COLUMNS] = 2;
+    v[ROWS] = 1;
+    lend(&g, &d, VALUES, 2);
+    expect(&d, number, 0, number == 0 ? 2 : 0, 0);
+    need(&d, number != 0 || (values_of(&d, VALUES)[0] == 16 && values_of(&d, VALUES)[1] == 0));
+}
+
+static void lattice_examples(void)
+{
+    height_example("E1", 0, 0, 36, 0, 16);
+    height_example("E2", 0, 0, 36, 16, 1);
+    height_example("E3", 0, 0, 36, 8, 8);
+    height_example("E4", -1, 0, 3, 0, 1);
+    height_example("E5", -1, 0, -3, 0, 0);
+    refine_examples();
+    raster_example("raster of step 8,192", 8192, 0);
+    raster_example("raster of step 8,193", 8193, 8);
+}
+
+/* ---- files: the lattice file of 1 by 1 zero cells, whole and with its rows tampered with ---- */
+
+static size_t zero_lattice_file(uint8_t *file, size_t rows)
+{
+    uint8_t *at = file;
+    size_t row;
+
+    memcpy(at, "LH\1\0\1\0", 6);
+    at += 6;
+    for (row = 0; row < rows; row++, at += 36) {
+        memset(at, 0, 36);
+        memcpy(at, "LR", 2);
+        at[2] = (uint8_t)row;
+    }
+    memcpy(at, "LE\4\0", 4);
+    return (size_t)(at + 4 - file);
+}
+
+static void read_example(const char *name, size_t rows, uint64_t number, uint64_t place)
+{
+    draft d = new_draft(READ_LATTICE);
+    const uint64_t cells = number == 0;
+
+    begin(name);
+    lend(&g, &d, VALUES, 16);
+    d.call.slice[BYTES].length = zero_lattice_file(d.call.slice[BYTES].at, rows);
+    expect(&d, number, place, cells, cells);
+}
+
+static void write_example(void)
+{
+    draft d = single_value(WRITE_LATTICE, 1, 0, 0, 0);
+    uint8_t file[154];
+
+    begin("the zero lattice's file of 154 bytes");
+    lend(&g, &d, BYTES, sizeof file);
+    expect(&d, 0, 0, sizeof file, 0);
+    need(&d, zero_lattice_file(file, 4) == sizeof file && memcmp(d.call.slice[BYTES].at, file, sizeof file) == 0);
+}
+
+static void empty_example(const char *name, function reader)
+{
+    const draft d = new_draft(reader);
+
+    begin(name);
+    expect(&d, 9, 0, 0, 0);
+}
+
+static void file_examples(void)
+{
+    write_example();
+    read_example("a lattice file", 4, 0, 0);
+    read_example("a row missing", 3, 9, 114);
+    read_example("a row too many", 5, 10, 150);
+    empty_example("an empty lattice file", READ_LATTICE);
+    empty_example("an empty point file", READ_POINTS);
+}
+
+size_t run_examples(void)
+{
+    fit_examples();
+    lattice_examples();
+    file_examples();
+    return examples;
+}

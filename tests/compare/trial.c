@@ -1,0 +1,388 @@
+/*
+ * One call on both implementations, each with slices of its own between guard zones and fences.
+ *
+ * A guard zone is memory with a known pattern: it shows writes outside a slice. A fence is a page that nobody may touch:
+ * it shows reads outside a slice too. Each slice lies against the fence before it, against the fence behind it, or free
+ * of both; a slice of no elements may also be lent as NULL.
+ */
+#define _DEFAULT_SOURCE         /* MAP_ANONYMOUS */
+
+#include "trial.h"
+
+#include "../../include/curlewtable.h"
+#include "../common/basics.h"
+#include "../common/random.h"
+
+#include <inttypes.h>
+#include <signal.h>
+#include <stdio.h>
+#include <string.h>
+#include <sys/mman.h>
+#include <unistd.h>
+
+#define SPARE 256               /* elements past the largest that is asked for */
+#define GUARD 200               /* bytes of a guard zone: no multiple of 16, so that slices lie at odd multiples of 8 too */
+#define GUARD_BYTE 0xA5
+
+const size_t capacity[SLICES] = {
+    [X] = 65535 + SPARE,
+    [Y] = 65535 + SPARE,
+    [Z] = 65535 + SPARE,
+    [LATTICE] = CURLEW_CONTROLS(512, 512) + SPARE,
+    [RESIDUAL] = 65535 + SPARE,
+    [WHOLE] = CURLEW_FIT_WHOLE(16, 16, 5, 65535) + SPARE,
+    [FLOATS] = CURLEW_FIT_FLOATS(16, 16, 5) + SPARE,
+    [VALUES] = 1000000 + SPARE,                                 /* a raster may have more, but not in these tests */
+    [BYTES] = CURLEW_LATTICE_FILE(512, 512) + 20 * SPARE,       /* with room for a row too many */
+};
+
+size_t compared[FUNCTIONS][MOST_NUMBER + 1];
+
+enum { LIBRARY, REFERENCE, SIDES };
+
+static const char *const side_names[SIDES] = { "library", "reference" };
+
+/* ---- what the report needs, wherever it is made ---- */
+
+static const char *current_name = "";
+static const call *current_call;
+static const char *current_side;
+
+static generator placement;
+
+void trial_name(const char *name, uint64_t seed)
+{
+    current_name = name;
+    placement.state = seed;
+}
+
+static void print_element(role r, const void *values, size_t at)
+{
+    if (r == X || r == Y)
+        printf(" %u", (unsigned)((const uint16_t *)values)[at]);
+    else if (r == FLOATS)
+        printf(" %a", ((const double *)values)[at]);
+    else if (r == BYTES)
+        printf(" %02x", (unsigned)((const uint8_t *)values)[at]);
+    else
+        printf(" %" PRId64, ((const int64_t *)values)[at]);
+}
+
+/* The slice's length and, where the function reads it, its first elements. */
+static void print_slice(const call *c, role r)
+{
+    const size_t length = c->slice[r].length;
+    const size_t shown = writes(c->function, r) ? 0 : length < 100 ? length : 100;
+    size_t at;
+
+    printf("  %s[%zu]", role_names[r], length);
+    for (at = 0; at < shown; at++)
+        print_element(r, c->slice[r].at, at);
+    printf("%s\n", shown > 0 && shown < length ? " ..." : "");
+}
+
+static void print_call(const call *c)
+{
+    unsigned place;
+    role r;
+
+    printf("%s: %s", current_name, shapes[c->function].name);
+    for (place = 0; place < NUMBERS; place++)
+        if (shapes[c->function].numbers >> place & 1)
+            printf(", %s %zu", number_name(c->function, place), c->number[place]);
+    printf("\n");
+    for (r = X; r < SLICES; r++)
+        if (takes(c->function, r))
+            print_slice(c, r);
+}
+
+void trial_failed(const call *c, const char *why)
+{
+    printf("DIFFERENCE: %s\n", why);
+    if (c != NULL)
+        print_call(c);
+    fflush(stdout);
+    exit(1);
+}
+
+static void print_answer(const char *side, answer a)
+{
+    size_t at;
+
+    printf("  %-9s answers number %" PRIu64 ", place %" PRIu64 ", then", side, a.field[NUMBER], a.field[PLACE]);
+    for (at = FIRST; at < FIELDS; at++)
+        printf(" %" PRId64, (int64_t)a.field[at]);
+    printf("\n");
+}
+
+/* ---- signals ---- */
+
+/*
+ * A fence was touched, or the call aborted or does not end. printf is safe enough here: a call prints nothing, so the
+ * signal does not come from inside printf.
+ */
+static void signalled(int number)
+{
+    printf("%s: signal %d in the %s\n", current_name, number, current_side == NULL ? "test itself" : current_side);
+    if (current_call != NULL)
+        print_call(current_call);
+    fflush(stdout);
+    _exit(1);
+}
+
+void trial_catch_signals(void)
+{
+    static const int numbers[] = { SIGSEGV, SIGBUS, SIGFPE, SIGILL, SIGABRT, SIGTRAP, SIGALRM };
+    struct sigaction action;
+    size_t i;
+
+    memset(&action, 0, sizeof action);
+    action.sa_handler = signalled;
+    for (i = 0; i < COUNT(numbers); i++)
+        sigaction(numbers[i], &action, NULL);
+}
+
+/* ---- slices between guard zones and fences ---- */
+
+typedef struct {
+    unsigned char *first;       /* behind its front fence */
+    size_t size;                /* to its back fence */
+} region;
+
+/* A slice as it is lent, with the guard zones that it has. */
+typedef struct {
+    unsigned char *zone;
+    size_t before, content, after;
+} image;
+
+static region new_region(size_t content)
+{
+    const size_t page = (size_t)sysconf(_SC_PAGESIZE);
+    region made;
+    unsigned char *memory;
+
+    made.size = (content + 2 * GUARD + page - 1) / page * page;
+    memory = mmap(NULL, made.size + 2 * page, PROT_NONE, MAP_PRIVATE | MAP_ANONYMOUS, -1, 0);
+    if (memory == MAP_FAILED || mprotect(memory + page, made.size, PROT_READ | PROT_WRITE) != 0) {
+        fprintf(stderr, "no memory\n");
+        exit(2);
+    }
+    made.first = memory + page;
+    return made;
+}
+
+/* The region of a side's slice, made when it is first needed. */
+static region region_of(int side, role r)
+{
+    static region regions[SIDES][SLICES];
+
+    if (regions[side][r].first == NULL)
+        regions[side][r] = new_region(capacity[r] * element_size[r]);
+    return regions[side][r];
+}
+
+enum { AT_FRONT, AT_BACK, FREE, PLACES };
+
+/* A slice with the caller's contents, in the given place of its region. */
+static image lay_out(region from, int place, const void *contents, size_t bytes)
+{
+    image made;
+
+    made.before = place == AT_FRONT ? 0 : GUARD;
+    made.content = bytes;
+    made.after = place == AT_BACK ? 0 : GUARD;
+    made.zone = place == AT_BACK ? from.first + from.size - bytes - GUARD : from.first;
+    memset(made.zone, GUARD_BYTE, made.before);
+    if (bytes > 0)
+        memcpy(made.zone + made.before, contents, bytes);
+    memset(made.zone + made.before + bytes, GUARD_BYTE, made.after);
+    return made;
+}
+
+static int untouched(const unsigned char *guard, size_t bytes)
+{
+    static unsigned char pattern[GUARD];
+
+    if (pattern[0] == 0)
+        memset(pattern, GUARD_BYTE, GUARD);
+    return memcmp(guard, pattern, bytes) == 0;
+}
+
+/* ---- what the header says, whatever the reference does ---- */
+
+/* How many elements, from the first, a fit with this answer may change: after 7 only scratch. */
+static size_t fit_may_change(const call *c, uint64_t number, role r)
+{
+    const size_t *v = c->number, points = c->slice[Z].length;
+
+    if (number != 0 && (number != 7 || r == LATTICE || r == RESIDUAL))
+        return 0;
+    switch (r) {
+    case LATTICE:
+        return CURLEW_FIT_LATTICE(v[M], v[N], v[H]);
+    case RESIDUAL:
+        return points;
+    case WHOLE:
+        return CURLEW_FIT_WHOLE(v[M], v[N], v[H], points);
+    default:
+        return CURLEW_FIT_FLOATS(v[M], v[N], v[H]);
+    }
+}
+
+/* The same of any call: what it accepts is a prefix, what it refuses is nothing. */
+static size_t may_change(const call *c, answer a, role r)
+{
+    if (!writes(c->function, r))
+        return 0;
+    if (c->function == FIT)
+        return fit_may_change(c, a.field[NUMBER], r);
+    if (a.field[NUMBER] != 0)
+        return 0;
+    switch (c->function) {
+    case REFINE:
+    case READ_LATTICE:
+        return CURLEW_CONTROLS(a.field[FIRST], a.field[SECOND]);
+    case READ_POINTS:
+        return (size_t)a.field[FIELDS - 1];
+    default:
+        return (size_t)a.field[FIRST];
+    }
+}
+
+static int all_zero(const unsigned char *bytes, size_t count)
+{
+    return count == 0 || (bytes[0] == 0 && memcmp(bytes, bytes + 1, count - 1) == 0);
+}
+
+/* A refusal has no values, an acceptance no place. */
+static int well_formed(answer a)
+{
+    return a.field[NUMBER] == 0 ? a.field[PLACE] == 0
+                                : all_zero((const unsigned char *)&a.field[FIRST], sizeof a - 2 * sizeof a.field[0]);
+}
+
+/* ---- the comparison ---- */
+
+/* The first byte at which two differ. */
+static size_t first_difference(const unsigned char *left, const unsigned char *right, size_t bytes)
+{
+    size_t at = 0;
+    while (at < bytes && left[at] == right[at])
+        at++;
+    return at;
+}
+
+static void slice_failed(const call *c, role r, const char *what)
+{
+    char why[200];
+
+    snprintf(why, sizeof why, "%s: %s", role_names[r], what);
+    trial_failed(c, why);
+}
+
+/* Ends the process if the library's bytes from a place on are not the others', which are of the kind named. */
+static void must_be_same(const call *c, role r, const unsigned char *library, const unsigned char *other,
+                         size_t from, size_t bytes, const char *kind)
+{
+    size_t at;
+
+    if (from >= bytes || memcmp(library + from, other + from, bytes - from) == 0)
+        return;
+    at = (from + first_difference(library + from, other + from, bytes - from)) / element_size[r];
+    printf("  %s[%zu]: library", role_names[r], at);
+    print_element(r, library, at);
+    printf(", %s", kind);
+    print_element(r, other, at);
+    printf("\n");
+    slice_failed(c, r, "not what it should be");
+}
+
+static void compare_guards(const call *c, role r, image lent, const char *wrote)
+{
+    if (!untouched(lent.zone, lent.before) || !untouched(lent.zone + lent.before + lent.content, lent.after))
+        slice_failed(c, r, wrote);
+}
+
+static void compare_slice(const call *c, answer a, role r, image library, image reference)
+{
+    const unsigned char *left = library.zone + library.before, *right = reference.zone + reference.before;
+    const size_t changed = may_change(c, a, r) * element_size[r];
+
+    must_be_same(c, r, left, right, 0, library.content, "reference");
+    if (changed > library.content)
+        slice_failed(c, r, "the answer speaks of more than was lent");
+    must_be_same(c, r, left, c->slice[r].at, changed, library.content, "as lent, where nothing changes,");
+    if ((r == WHOLE || r == FLOATS) && !all_zero(left, changed))
+        slice_failed(c, r, "not zero");
+    compare_guards(c, r, library, "the library wrote outside");
+    compare_guards(c, r, reference, "the reference wrote outside");
+}
+
+static void compare_answers(const call *c, answer library, answer reference)
+{
+    if (memcmp(&library, &reference, sizeof library) != 0) {
+        print_answer(side_names[LIBRARY], library);
+        print_answer(side_names[REFERENCE], reference);
+        trial_failed(c, "the answers differ");
+    }
+    if (!well_formed(library))
+        trial_failed(c, "a refusal with values, or an acceptance with a place");
+}
+
+/* The call with slices of the side's own, laid out like the other side's. */
+static call lent_to(int side, const call *c, const int place[SLICES], image images[SLICES])
+{
+    call own = *c;
+    role r;
+
+    for (r = X; r < SLICES; r++) {
+        if (!takes(c->function, r))
+            continue;
+        images[r] = lay_out(region_of(side, r), place[r], c->slice[r].at, c->slice[r].length * element_size[r]);
+        own.slice[r].at = images[r].zone + images[r].before;
+        if (c->slice[r].length == 0 && place[r] == AT_FRONT)
+            own.slice[r].at = NULL;
+    }
+    return own;
+}
+
+static answer run_on(int side, const call *own)
+{
+    static runner *const run[SIDES] = { run_library, run_reference };
+    answer result;
+
+    current_side = side_names[side];
+    result = run[side](own);
+    current_side = NULL;
+    return result;
+}
+
+answer trial(const call *c)
+{
+    image images[SIDES][SLICES];
+    int place[SLICES];
+    call own[SIDES];
+    answer answers[SIDES];
+    role r;
+    int side;
+
+    current_call = c;
+    for (r = X; r < SLICES; r++)
+        place[r] = (int)below(&placement, PLACES);
+    for (side = 0; side < SIDES; side++) {
+        own[side] = lent_to(side, c, place, images[side]);
+        answers[side] = run_on(side, &own[side]);
+    }
+
+    compare_answers(c, answers[LIBRARY], answers[REFERENCE]);
+    for (r = X; r < SLICES; r++)
+        if (takes(c->function, r))
+            compare_slice(c, answers[LIBRARY], r, images[LIBRARY][r], images[REFERENCE][r]);
+    compared[c->function][answers[LIBRARY].field[NUMBER]]++;
+
+    for (r = X; r < SLICES; r++)
+        if (writes(c->function, r) && c->slice[r].length > 0)
+            memcpy(c->slice[r].at, own[LIBRARY].slice[r].at, c->slice[r].length * element_size[r]);
+    current_call = NULL;
+    return answers[LIBRARY];
+}

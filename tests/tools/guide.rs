@@ -1,0 +1,42 @@
+
+// Follows the declarations of docs/HOST.md: calls each of the eight functions. m0, n0, h and p all differ, and so do m and n, so that
+// two fields or two arguments that changed places are seen.
+fn main() {
+    let (m0, n0, h, x, y, z) = (4, 3, 1, [0u16, 100], [0u16, 50], [9i64, -7]);
+    let (mut lattice, mut residual, mut whole, mut floats) = (vec![7i64; 99], vec![7i64; 2], vec![7i64; 299], vec![7f64; 198]);
+    let fitted = unsafe {
+        curlew_fit(m0, n0, h, x.as_ptr(), 2, y.as_ptr(), 2, z.as_ptr(), 2, lattice.as_mut_ptr(), 99, residual.as_mut_ptr(), 2,
+                   whole.as_mut_ptr(), 299, floats.as_mut_ptr(), 198)
+    };
+    assert_eq!(fitted, Cells { number: 0, place: 0, m: 8, n: 6 });
+    assert!(whole.iter().all(|&v| v == 0) && floats.iter().all(|&v| v == 0.0));
+    let height = height_at(8, 6, 16, &lattice, 100, 50);
+    assert_eq!((height.number, height.place), (0, 0));
+    assert!((height.height + residual[1] - z[1]).abs() <= 3);       // the residual was rounded at each level, the height once
+    assert_eq!(height_at(8, 6, 17, &lattice, 0, 0), Height { number: 2, place: 0, height: 0 });
+
+    let mut refined = vec![0i64; 19 * 15];
+    let cells = unsafe { curlew_refine(8, 6, lattice.as_ptr(), 99, refined.as_mut_ptr(), 19 * 15) };
+    assert_eq!(cells, Cells { number: 0, place: 0, m: 16, n: 12 });
+
+    let mut raster = vec![0i64; 6];
+    let nodes = unsafe { curlew_raster(8, 6, 16, lattice.as_ptr(), 99, 50, 50, 25, 3, 2, raster.as_mut_ptr(), 6) };
+    assert_eq!(nodes, Count { number: 0, place: 0, count: 6 });
+    assert_eq!(raster[2], height.height);
+
+    let (mut file, mut read) = (vec![0u8; 838], vec![0i64; 99]);
+    let bytes = unsafe { curlew_write_lattice(8, 6, lattice.as_ptr(), 99, file.as_mut_ptr(), 838) };
+    assert_eq!(bytes, Count { number: 0, place: 0, count: 838 });
+    let cells = unsafe { curlew_read_lattice(file.as_ptr(), 838, read.as_mut_ptr(), 99) };
+    assert_eq!((cells, read), (fitted, lattice));
+
+    let (mut file, mut x2, mut y2, mut z2) = ([0u8; 36], [1u16; 2], [1u16; 2], [1i64; 2]);
+    let bytes = unsafe { curlew_write_points(m0, n0, h, x.as_ptr(), 2, y.as_ptr(), 2, z.as_ptr(), 2, file.as_mut_ptr(), 36) };
+    assert_eq!(bytes, Count { number: 0, place: 0, count: 36 });
+    let header = unsafe {
+        curlew_read_points(file.as_ptr(), 36, x2.as_mut_ptr(), 2, y2.as_mut_ptr(), 2, z2.as_mut_ptr(), 2)
+    };
+    assert_eq!(header, Header { number: 0, place: 0, m0, n0, h, points: 2 });
+    assert_eq!((x2, y2, z2), (x, y, z));
+    println!("eight functions called");
+}
