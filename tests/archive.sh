@@ -2,11 +2,10 @@
 own_archive=target/staticlib/libcurlewtable.a
 archive=$own_archive
 
-# Builds the archive if it is missing, and says so if sources have changed since it was built.
+# Builds the repository's own archive if it is missing, and says so if sources have changed since it was built.
 need_archive() {
-    if [[ ! -e $archive && $archive != "$own_archive" ]]; then
-        echo "there is no $archive" >&2
-        exit 1
+    if [[ $archive != "$own_archive" ]]; then
+        [[ -e $archive ]] || { echo "there is no $archive" >&2; exit 1; }
     elif [[ ! -e $archive ]]; then
         echo "building $archive"
         mkdir -p target

@@ -1,0 +1,3 @@
+pub mod Sampled
+pub mod Strips
+pub mod Promises
