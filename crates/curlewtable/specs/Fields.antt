@@ -1,0 +1,28 @@
+-- The fields that C is handed for each answer of the rules: number 0 for an acceptance, and values of 0 for a refusal.
+use Prim.Native.Nat.{ℕ}
+use lib.IntN.{ℤ, pos}
+use Rattle.rules.specs.Answers as rule
+use Rattle.rules.specs.Answers.{accepted, refused}
+use Rattle.rules.specs.Calls as calls
+use Rattle.rules.specs.PointFile as pointFile
+use Rattle.curlewtable.specs.declared.CellsAnswer.{CellsAnswer}
+use Rattle.curlewtable.specs.declared.HeightAnswer.{HeightAnswer}
+use Rattle.curlewtable.specs.declared.CountAnswer.{CountAnswer}
+use Rattle.curlewtable.specs.declared.HeaderAnswer.{HeaderAnswer}
+
+abbrev pub cellsFields : rule.Answer calls.Cells → CellsAnswer
+cellsFields (accepted c) = record { number = 0; place = 0; m = c .m; n = c .n }
+cellsFields (refused r) = record { number = rule.number r; place = rule.place r; m = 0; n = 0 }
+
+abbrev pub heightFields : rule.Answer ℤ → HeightAnswer
+heightFields (accepted z) = record { number = 0; place = 0; height = z }
+heightFields (refused r) = record { number = rule.number r; place = rule.place r; height = pos 0 }
+
+abbrev pub countFields : rule.Answer ℕ → CountAnswer
+countFields (accepted q) = record { number = 0; place = 0; count = q }
+countFields (refused r) = record { number = rule.number r; place = rule.place r; count = 0 }
+
+abbrev pub headerFields : rule.Answer pointFile.Header → HeaderAnswer
+headerFields (accepted a) =
+    record { number = 0; place = 0; m0 = a .shape .m0; n0 = a .shape .n0; h = a .shape .h; points = a .points }
+headerFields (refused r) = record { number = rule.number r; place = rule.place r; m0 = 0; n0 = 0; h = 0; points = 0 }

@@ -1,0 +1,5 @@
+mod Sizes
+mod Settling
+mod Raising
+mod Stepping
+mod Answering

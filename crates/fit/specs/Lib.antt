@@ -1,0 +1,3 @@
+pub mod Fitted
+pub mod Scratch
+pub mod Demand3
