@@ -5,6 +5,7 @@ ghost use Rattle.rules.specs.Calls as calls;
 ghost use Rattle.rules.specs.LatticeFile as latticeFile;
 ghost use Rattle.rules.specs.PointFile as pointFile;
 ghost use Rattle.curlewtable.specs.Fields.{cellsFields, heightFields, countFields, headerFields};
+use fit::Fitted;
 use heights::Reading;
 use lattice_file::LatticeRead;
 use lattice_file::LatticeWritten;
@@ -43,6 +44,41 @@ pub struct HeaderAnswer {
     pub n0: usize,
     pub h: usize,
     pub points: usize,
+}
+
+#[no_mangle]
+pub extern "C" fn curlew_fit(
+    m0: usize,
+    n0: usize,
+    h: usize,
+    x: &[u16],
+    y: &[u16],
+    z: &[i64],
+    lattice: &mut [i64],
+    residual: &mut [i64],
+    whole: &mut [i64],
+    floats: &mut [f64],
+) -> CellsAnswer
+    ensures { λ r. ⌜ r ≡ cellsFields (calls.fitAnswer (fitRule.shape m0 n0 h) (now (x .entry)) (now (y .entry)) (now (z .entry)) (calls.lent (now (lattice .entry)) (now (residual .entry)) (now (whole .entry)) (now (floats .entry)))) ⌝ }
+    ensures { λ _. ⌜ now (lattice .exit) ≡ calls.fitLeaves (fitRule.shape m0 n0 h) (now (x .entry)) (now (y .entry)) (now (z .entry)) (calls.lent (now (lattice .entry)) (now (residual .entry)) (now (whole .entry)) (now (floats .entry))) .lattice ⌝ }
+    ensures { λ _. ⌜ now (residual .exit) ≡ calls.fitLeaves (fitRule.shape m0 n0 h) (now (x .entry)) (now (y .entry)) (now (z .entry)) (calls.lent (now (lattice .entry)) (now (residual .entry)) (now (whole .entry)) (now (floats .entry))) .residual ⌝ }
+    ensures { λ _. ⌜ now (whole .exit) ≡ calls.fitLeaves (fitRule.shape m0 n0 h) (now (x .entry)) (now (y .entry)) (now (z .entry)) (calls.lent (now (lattice .entry)) (now (residual .entry)) (now (whole .entry)) (now (floats .entry))) .whole ⌝ }
+    ensures { λ _. ⌜ now (floats .exit) ≡ calls.fitLeaves (fitRule.shape m0 n0 h) (now (x .entry)) (now (y .entry)) (now (z .entry)) (calls.lent (now (lattice .entry)) (now (residual .entry)) (now (whole .entry)) (now (floats .entry))) .floats ⌝ }
+{
+    match fit::fit(m0, n0, h, x, y, z, lattice, residual, whole, floats) {
+        Fitted::Cells(m, n) => CellsAnswer {
+            number: 0,
+            place: 0,
+            m,
+            n,
+        },
+        Fitted::Refused(r) => CellsAnswer {
+            number: answers::number(r),
+            place: answers::place(r),
+            m: 0,
+            n: 0,
+        },
+    }
 }
 
 #[no_mangle]
