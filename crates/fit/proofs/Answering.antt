@@ -1,27 +1,26 @@
 -- The answer of the fit, and what it leaves in the four slices: on a refusal before the levels nothing has changed, and what the levels leave is cleared.
 use mathlib.Core.Path.{_≡_, refl, sym, ap, ap₂, _∙_}
-use mathlib.Core.Bool.{Bool, true, false, _&&_}
+use mathlib.Core.Bool.{true, false, _&&_}
 use mathlib.Core.Option.{none, some}
-use mathlib.Core.List.{List, map}
-use Prim.Native.Nat.{ℕ, _+_, _-_, _*_, _%_, _≤_, _<_}
+use mathlib.Core.List.{List}
+use Prim.Native.Nat.{ℕ, _+_, _*_, _%_, _≤_}
 use native.Mathlib.Nat.{mul-le-mul}
 use native.Mathlib.Omega.{arith}
-use lib.Dec.{T, leb, leb→le}
-use lib.Ieee.{Float}
+use lib.Dec.{leb, leb→le}
 use lib.IntN.{ℤ, pos}
-use lib.ListN.{length, drop, take, replicate, getD, length-replicate}
+use lib.ListN.{length, drop, take, replicate, length-replicate}
 use Rattle.algebra.specs.Table.{over, area, tabulate, area-part, take-area, over-past, tabulate-replicate}
-use Rattle.rules.specs.Answers.{Refusal, inLevels, short, Check, require, _then_, firstOf, Answer, accepted, refused, answer, left, quotient, residual, sum, cells, levels, lists, position, range}
-use Rattle.rules.specs.Grid.{cellsAt, controls, inRange, inside}
+use Rattle.rules.specs.Answers.{Refusal, inLevels, short, Check, require, _then_, Answer, accepted, refused, answer, left, quotient, residual, cells, levels, lists, position, range}
+use Rattle.rules.specs.Grid.{cellsAt, inside}
 use Rattle.rules.specs.Level.{Point, zero64}
-use Rattle.rules.specs.Fit.{Shape, shape, columns, rows, pointsOf, running, residuals, quotientCheck, residualCheck, sumCheck, levelCheck, levelsCheck}
+use Rattle.rules.specs.Fit.{Shape, columns, rows, pointsOf, running, quotientCheck, residualCheck, sumCheck, levelCheck, levelsCheck}
 use Rattle.rules.specs.Calls.{Cells, Lent, K, cellsCheck, levelsCountCheck, listsCheck, lentCheck, pointsCheck, fitCheck, fitAnswer, fitLeaves, cleared}
-use Rattle.rules.specs.Laws.Checks.{Only, only-require, only-then, only-firstOf, only-rangeCheck, required, both, then-none, AllInRange}
+use Rattle.rules.specs.Laws.Checks.{Only, only-require, only-then, only-firstOf, only-rangeCheck, required, both, AllInRange}
 use Rattle.rules.specs.Laws.Fit.{residualList}
-use Rattle.survey.specs.Passed.{Bounded, points-passed, cellsAt-most}
+use Rattle.survey.specs.Passed.{Bounded, points-passed, then-assoc, cellsAt-most}
 use Rattle.fit.specs.Fitted.{levelsAnswer}
 use Rattle.fit.specs.Scratch.{Sized, Ready, Levelled, places}
-use Rattle.fit.proofs.Sizes.{count-is, area-within}
+use Rattle.fit.proofs.Sizes.{count-is}
 use Rattle.fit.proofs.Settling.{lent}
 
 -- ---- what an answer leaves of a slice
@@ -101,12 +100,6 @@ cleared-past n z middle before e = over-past (replicate n z) middle before (rw (
 
 -- ---- the fit
 
-then-four : (c d e f : Check) → (c then d then e then f) ≡ ((c then d then e) then f)
-unfolding _then_
-then-four none none e f = refl
-then-four none (some r) e f = refl
-then-four (some r) d e f = refl
-
 module _ (a : Shape) (xs ys : List ℕ) (zs : List ℤ) (l : Lent) where
   -- what the contract says of an answer and the four slices
   abbrev Promised : Answer Cells → Lent → Type 0
@@ -123,7 +116,9 @@ module _ (a : Shape) (xs ys : List ℕ) (zs : List ℤ) (l : Lent) where
 
   grouped : fitCheck a xs ys zs l ≡ (headCheck then lentCheck a (length xs) l then placesCheck then levelsCheck a (pointsOf xs ys zs))
   unfolding fitCheck
-  grouped = then-four (cellsCheck 16 (a .m0) (a .n0)) (levelsCountCheck (a .h)) (listsCheck xs ys zs) _
+  grouped =
+      let cells-found = cellsCheck 16 (a .m0) (a .n0) in
+      sym (then-assoc cells-found (levelsCountCheck (a .h) then listsCheck xs ys zs) _ ∙ ap (λ c. cells-found then c) (then-assoc (levelsCountCheck (a .h)) (listsCheck xs ys zs) _))
 
   refused-early : (r : Refusal) → fitCheck a xs ys zs l ≡ some r → inLevels r ≡ false → Promised (refused r) l
   unfolding fitAnswer fitLeaves answer left cleared

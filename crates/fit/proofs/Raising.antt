@@ -1,15 +1,15 @@
 -- The second half of a level: what `copy_within`, or `refine_at` and `add`, leave is the running lattice of the rules.
-use mathlib.Core.Path.{_≡_, refl, sym, ap, ap₂, _∙_}
+use mathlib.Core.Path.{_≡_, sym, ap, ap₂, _∙_}
 use mathlib.Core.Option.{none, some}
 use mathlib.Core.List.{List}
 use mathlib.Core.Logic.{_⊎_, inl, inr, ⊎-elim}
 use Prim.Native.Nat.{ℕ, zero, suc, _+_, _*_, _%_, _≤_, _<_}
 use native.Mathlib.Decide.{decLt}
 use native.Mathlib.Omega.{arith}
-use lib.IntN.{ℤ, pos, natAbs, _+ℤ_}
+use lib.IntN.{ℤ, pos, _+ℤ_}
 use lib.ListN.{length, getD, drop}
-use Rattle.algebra.specs.Table.{Apart, laid, area, tabulate, length-tabulate, tabulate-same, length-laid, length-area, drop-laid, drop-further, area-laid, area-apart, getD-area}
-use Rattle.rules.specs.Answers.{Refusal, Check, rangeCheck, sum}
+use Rattle.algebra.specs.Table.{Apart, laid, area, tabulate, tabulate-same, length-laid, drop-laid, area-laid, area-apart, getD-area}
+use Rattle.rules.specs.Answers.{Check, rangeCheck, sum}
 use Rattle.rules.specs.Grid.{limit, cellsAt, controls, control, store}
 use Rattle.rules.specs.Refinement.{refined}
 use Rattle.rules.specs.Level.{Point}

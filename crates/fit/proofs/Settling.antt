@@ -1,23 +1,23 @@
 -- The first half of a level: what `gather`, `settle_all` and `lower` leave is the level lattice of the rules and the residuals less its heights.
-use mathlib.Core.Path.{_≡_, refl, sym, ap, ap₂, _∙_}
+use mathlib.Core.Path.{_≡_, sym, ap, ap₂, _∙_}
 use mathlib.Core.Option.{none, some}
-use mathlib.Core.List.{List, _++_, map}
+use mathlib.Core.List.{List, _++_}
 use mathlib.Core.Logic.{inl, inr}
-use Prim.Native.Nat.{ℕ, suc, _+_, _-_, _*_, _/_, _%_, _^_, _≤_, _<_}
+use Prim.Native.Nat.{ℕ, suc, _+_, _-_, _*_, _%_, _^_, _≤_, _<_}
 use native.Mathlib.Omega.{arith}
 use lib.Ieee.{Float}
-use lib.IntN.{ℤ, pos, natAbs, _-ℤ_}
+use lib.IntN.{ℤ, pos, _-ℤ_}
 use lib.ListN.{length, getD, take, drop}
 use borrow.Rule.Slice.PartMut.{drop-put, mid-len}
-use Rattle.algebra.specs.Table.{over, laid, area, tabulate, length-tabulate, tabulate-same, laid-part, laid-front, drop-laid, drop-further, area-part, area-laid, area-apart, getD-area, length-area}
+use Rattle.algebra.specs.Table.{over, laid, area, tabulate, length-tabulate, tabulate-same, laid-part, laid-front, drop-laid, drop-further, area-part, area-laid, area-apart, getD-area}
 use Rattle.rules.specs.Answers.{Refusal, Check, require, _then_, firstOf, rangeCheck, quotient, residual}
-use Rattle.rules.specs.Grid.{limit, cellsAt, controls, control, store}
+use Rattle.rules.specs.Grid.{cellsAt, controls, control}
 use Rattle.rules.specs.Surface.{height}
 use Rattle.rules.specs.Level.{Point}
 use Rattle.rules.specs.Fit.{Shape, columns, rows, unitOf, pointsOf, valueAt, present, orZero, levelOf, residuals, level, quotientCheck, residualCheck}
 use Rattle.rules.specs.Laws.Checks.{AllInRange, rangeCheck-size, then-none}
 use Rattle.rules.specs.Laws.Surface.{length-store}
-use Rattle.rules.specs.Laws.Fit.{Listed, listed-points, residualList, residuals-listed, length-residuals, level-size, next-residuals}
+use Rattle.rules.specs.Laws.Fit.{listed-points, residualList, residuals-listed, length-residuals, level-size, next-residuals}
 use Rattle.level_fit.specs.Sums.{sumTable, settledAt, Fittable}
 use Rattle.level_fit.specs.Level.{values-table, refused-table}
 use Rattle.fit_steps.specs.Steps.{lowered, Lowerable}
@@ -38,8 +38,8 @@ pub returned-past : (n k e : ℕ) (v whole : List ℤ) → n + k ≤ e → n + k
 returned-past n k e v whole h l s =
     drop-further (n + k) e (returned n k v whole) whole h (drop-put n (n + k) whole v (omega arith) l (s ∙ mid-len n (n + k) whole l))
 
-over-past : (n : ℕ) (r d : List Float) → length r ≤ n → drop n (over r d) ≡ drop n d
-over-past n r d h = ap (drop n) (sym (laid-front r d)) ∙ drop-laid 0 n r d (omega arith) (omega arith)
+drop-over : (n : ℕ) (r d : List Float) → length r ≤ n → drop n (over r d) ≡ drop n d
+drop-over n r d h = ap (drop n) (sym (laid-front r d)) ∙ drop-laid 0 n r d (omega arith) (omega arith)
 
 length-sums : (U m n : ℕ) (points : List Point) → length (sumTable U m n points) ≡ 2 * controls m n
 unfolding sumTable
@@ -129,7 +129,7 @@ module _ {a : Shape} {most k : ℕ} {xs ys : List ℕ} {W F : ℕ} (ready : Read
         unfolding controls
         sums-past h =
             ap (drop (2 * most)) gathered
-            ∙ over-past (2 * most) _ d (rw (length-sums (2 ^ (4 + a .h - k)) m n (pointsOf xs ys (lent (3 * most) (length xs) whole))) (omega (arith, cell-counts)))
+            ∙ drop-over (2 * most) _ d (rw (length-sums (2 ^ (4 + a .h - k)) m n (pointsOf xs ys (lent (3 * most) (length xs) whole))) (omega (arith, cell-counts)))
 
         -- what `settle_all` finds
         pub quotients : {found : Check} → firstOf ((m + 3) * (n + 3)) (λ q. require (present (settledAt sums q)) (quotient k)) ≡ found

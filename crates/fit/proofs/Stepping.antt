@@ -15,16 +15,12 @@ use Rattle.rules.specs.Level.{Point}
 use Rattle.rules.specs.Fit.{Shape, pointsOf, residuals, levelCheck, levelsCheck, quotientCheck, residualCheck, sumCheck}
 use Rattle.rules.specs.Laws.Checks.{AllInRange, then-none, firstOf-at}
 use Rattle.rules.specs.Laws.Fit.{Listed, listed, residualList}
+use Rattle.survey.specs.Passed.{then-assoc}
 use Rattle.fit.specs.Scratch.{Ready, Before, Left, Runs, Settled, Raised, Stepped, Levelled}
 use Rattle.fit.proofs.Sizes.{listed-many}
 use Rattle.fit.proofs.Settling.{lent, returned, refused-not}
 
 -- ---- the halves of a level
-
-then-both : (c d e : Check) → (c then d then e) ≡ ((c then d) then e)
-unfolding _then_
-then-both none d e = refl
-then-both (some r) d e = refl
 
 -- the residuals stay where nothing from 2 × most on changes
 left-kept : {a : Shape} {points : List Point} {most k : ℕ} {now whole : List ℤ} → drop (2 * most) now ≡ drop (2 * most) whole
@@ -36,7 +32,7 @@ left-kept {points = points} {most = most} {now = now} {whole = whole} e l =
 module _ {a : Shape} {points : List Point} {most k : ℕ} {found : Check} {whole : List ℤ} (s : Settled a points most k found whole) where
   halves : levelCheck a points k ≡ (found then sumCheck a points k)
   unfolding levelCheck
-  halves = then-both (quotientCheck a points k) (residualCheck a points k) (sumCheck a points k) ∙ ap (λ c. c then sumCheck a points k) (sym (s .told))
+  halves = sym (then-assoc (quotientCheck a points k) (residualCheck a points k) (sumCheck a points k)) ∙ ap (λ c. c then sumCheck a points k) (sym (s .told))
 
   pub stepped-refused : {xs ys : List ℕ} {r : Refusal} {now : List ℤ} → found ≡ some r → Stepped a points most k xs ys (some r) now
   unfolding _then_

@@ -1,31 +1,19 @@
 -- `fit::fit` meets its contract: a refusal before the levels is the first check that fails and leaves all as it was; what the levels leave is cleared.
 use mathlib.Core.Path.{_≡_, sym, ap, _∙_}
-use mathlib.Core.Bool.{_&&_}
 use mathlib.Core.Option.{none}
-use mathlib.Core.List.{List}
-use Prim.Native.Nat.{ℕ, _+_, _*_, _≤_}
+use Prim.Native.Nat.{ℕ, _+_, _*_}
 use native.Mathlib.Omega.{arith}
-use lib.Dec.{leb}
 use lib.ListN.{length}
-use Rattle.rules.specs.Answers.{Check, short, require, _then_}
+use Rattle.rules.specs.Answers.{Check, _then_}
 use Rattle.rules.specs.Fit.{Shape, shape, columns, rows}
 use Rattle.rules.specs.Calls.{Lent, lent, K, cellsCheck, levelsCountCheck, listsCheck, lentCheck, pointsCheck}
 use Rattle.answers.specs.Cause.{check}
-use Rattle.survey.specs.Passed.{Bounded, head-passed, cellsAt-most}
+use Rattle.survey.specs.Passed.{Bounded, head-passed}
 use Rattle.fit.proofs.Sizes.{Counted, counted}
 use Rattle.fit.proofs.Answering.{refused-head, refused-room, refused-points, finished, room-is, Roomy, roomy, most-is, sized, points-is, heights-ranged, ready}
 use borrow.Author.Needs.{needs}
 use Rattle.fit.proofs.fit.Statement.{statement}
 use Rattle.fit.proofs.fit.Tie as tie
-use Rattle.fit.proofs.fit.Reads as reads
-use Rattle.fit.proofs.fit.Lts as lts
-use Rattle.fit.proofs.cells.Reads as cells-reads
-use Rattle.fit.proofs.room.Reads as room-reads
-use Rattle.fit.proofs.run.Reads as run-reads
-use Rattle.fit_steps.proofs.clear.Reads as clear-reads
-use Rattle.level_fit.proofs.clear.Reads as clear-reads′
-use Rattle.survey.proofs.head.Reads as head-reads
-use Rattle.survey.proofs.points.Reads as points-reads
 
 -- ---- what is known behind each check
 
@@ -102,21 +90,21 @@ module _ (c : tie.After-enum-told3) where
   abbrev sixth : tie.After-points
   sixth = c .before .before
 
-  abbrev sized-there : tie.After-cells2
-  sized-there = third (fourth (fifth sixth))
+  abbrev base : tie.After-cells2
+  base = third (fourth (fifth sixth))
 
-  abbrev args-of : tie.Start
-  args-of = given (fifth sixth)
+  abbrev lender : tie.Start
+  lender = given (fifth sixth)
 
-  inside : pointsCheck 16 (sized-there .before .cells .result) (sized-there .cells2 .result) (args-of .args .xs .now) (args-of .args .ys .now) (args-of .args .zs .now) ≡ none
+  inside : pointsCheck 16 (base .before .cells .result) (base .cells2 .result) (lender .args .xs .now) (lender .args .ys .now) (lender .args .zs .now) ≡ none
   inside = sym (sixth .points .ensures) ∙ ap check (c .enum-told3 .given .1)
 
 module _ (c : tie.After-run) where
   abbrev seventh : tie.After-enum-told3
   seventh = c .before .before .before .before .before
 
-  abbrev sizes : tie.After-cells2
-  sizes = sized-there seventh
+  abbrev ground : tie.After-cells2
+  ground = base seventh
 
 -- ---- the needs
 
@@ -188,7 +176,7 @@ enum-told-3 c = search needs
 run-requires : tie.Need-run-requires
 run-requires c κs =
     let q = c .before .before .before .before in
-    let t = sized-there q in
+    let t = base q in
     let b = bounded (second t) in
     let m-is = t .before .cells .ensures in
     let n-is = t .cells2 .ensures in
@@ -198,10 +186,10 @@ run-requires c κs =
     )
 
 mul-clear : tie.Need-mul-clear
-mul-clear c = omega (arith, counts (sizes (c .before .before .before .before .before)))
+mul-clear c = omega (arith, counts (ground (c .before .before .before .before .before)))
 
 add-clear : tie.Need-add-clear
-add-clear c = let t = sizes (c .before .before .before .before .before) in omega (arith, counts t, bounded (second t) .lists)
+add-clear c = let t = ground (c .before .before .before .before .before) in omega (arith, counts t, bounded (second t) .lists)
 
 clear-requires : tie.Need-clear-requires
 clear-requires c κs =
@@ -209,7 +197,7 @@ clear-requires c κs =
     omega (arith, lengths (fifth (sixth (seventh r))), r .run .kept .1 .1 .1 .1 .1 .1 .1 .1 .1 .0)
 
 mul-clear-2 : tie.Need-mul-clear-2
-mul-clear-2 c = omega (arith, counts (sizes (c .before .before .before .before .before .before .before .before .before)))
+mul-clear-2 c = omega (arith, counts (ground (c .before .before .before .before .before .before .before .before .before)))
 
 clear-requires-2 : tie.Need-clear-requires-2
 clear-requires-2 c κs =
@@ -234,14 +222,14 @@ returns-4 c =
     let r = w .before .before .before .before .before .before .before in
     let q = seventh r in
     let f = fourth (fifth (sixth q)) in
-    let s = args-of q .args in
+    let s = lender q .args in
     let e = r .run .ensures in
     let last = r .run .last .1 .1 .1 .1 .1 .1 .1 in
     finished (a (opening f)) (s .xs .now) (s .ys .now) (s .zs .now) (slices (opening f)) (head-none (second (third f))) (room-none (fifth (sixth q)))
     (points-found (sixth q) (ap check (q .enum-told3 .given .1)))
     (lent (last .0) (last .1 .0) (w .clear .last .1 .0) (c .before .before .clear2 .last .0))
     (lent (last .0) (last .1 .0) (last .1 .1 .0) (last .1 .1 .1 .0))
-    (most (sizes r)) (whole-count (sizes r)) (e .0) (e .1 .0) (e .1 .1 .0) (e .1 .1 .1 .0) (e .1 .1 .1 .1) (w .clear .ensures) (c .before .before .clear2 .ensures)
+    (most (ground r)) (whole-count (ground r)) (e .0) (e .1 .0) (e .1 .1 .0) (e .1 .1 .1 .0) (e .1 .1 .1 .1) (w .clear .ensures) (c .before .before .clear2 .ensures)
 
 pub fit-spec : {M : Type 1} → statement M
 fit-spec =

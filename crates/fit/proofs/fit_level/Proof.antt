@@ -1,22 +1,17 @@
 -- `fit::fit_level` meets its contract: it is refused where one of its halves is, and leaves what the next level asks.
-use mathlib.Core.Path.{_≡_, ap, _∙_}
+use mathlib.Core.Path.{ap, _∙_}
 use mathlib.Core.List.{List}
-use Prim.Native.Nat.{ℕ, _+_, _*_, _≤_}
+use Prim.Native.Nat.{_+_, _*_}
 use native.Mathlib.Omega.{arith}
 use lib.IntN.{ℤ}
-use lib.ListN.{length, drop}
+use lib.ListN.{length}
 use Rattle.algebra.specs.Table.{drop-further}
-use Rattle.rules.specs.Level.{Point}
 use Rattle.answers.specs.Cause.{check}
 use Rattle.fit.proofs.Sizes.{sized-before}
 use Rattle.fit.proofs.Stepping.{stepped-refused, stepped}
 use borrow.Author.Needs.{needs}
 use Rattle.fit.proofs.fit_level.Statement.{statement}
 use Rattle.fit.proofs.fit_level.Tie as tie
-use Rattle.fit.proofs.fit_level.Reads as reads
-use Rattle.fit.proofs.fit_level.Lts as lts
-use Rattle.fit.proofs.raise_level.Reads as raise-level-reads
-use Rattle.fit.proofs.settle_level.Reads as settle-level-reads
 
 module _ (c : tie.After-settle-level) where
   abbrev start : tie.Start

@@ -1,24 +1,20 @@
 -- `fit::fit_levels` meets its contract. The loop's invariant: no level before k was refused, and the scratch is as level k asks.
 use mathlib.Core.Path.{_≡_, ap, _∙_}
 use mathlib.Core.List.{List}
-use Prim.Native.Nat.{ℕ, _+_, _-_, _*_, _≤_}
+use Prim.Native.Nat.{ℕ, _+_, _-_, _*_}
 use native.Mathlib.Omega.{arith}
 use borrow.Author.Needs.{needs}
 use borrow.Rule.Slice.PartMut.{mid-len, same-len-mid}
 use lib.IntN.{ℤ}
 use lib.ListN.{length, drop}
 use Rattle.rules.specs.Level.{Point}
-use Rattle.rules.specs.Fit.{Shape, shape, pointsOf}
+use Rattle.rules.specs.Fit.{shape, pointsOf}
 use Rattle.answers.specs.Cause.{check}
 use Rattle.fit.specs.Scratch.{Ready}
-use Rattle.fit.proofs.Settling.{lent, returned, returned-past}
+use Rattle.fit.proofs.Settling.{returned, returned-past}
 use Rattle.fit.proofs.Stepping.{Passing, beginning, passing, levels-refused, levels-done}
 use Rattle.fit.proofs.fit_levels.Statement.{statement}
 use Rattle.fit.proofs.fit_levels.Tie as tie
-use Rattle.fit.proofs.fit_levels.Reads as reads
-use Rattle.fit.proofs.fit_levels.Lts as lts
-use Rattle.fit.proofs.fit_level.Reads as fit-level-reads
-use Rattle.fit_steps.proofs.copy.Reads as copy-reads
 
 abbrev Inv-loop : tie.InvT-loop
 Inv-loop m0 n0 h most xs ys zs whole₀ floats₀ residuals end k₀ whole floats k =

@@ -1,15 +1,14 @@
 -- `fit::raise_level` meets its contract: level lattice 0 is copied, and of any later level the running lattice before it is refined and added to.
 use mathlib.Core.Path.{_≡_, sym, ap, subst, _∙_}
-use mathlib.Core.Bool.{Bool, true, false}
-use mathlib.Core.Option.{none, some}
+use mathlib.Core.Bool.{Bool}
 use mathlib.Core.List.{List}
-use Prim.Native.Nat.{ℕ, suc, _+_, _-_, _*_, _%_, _≤_}
+use Prim.Native.Nat.{ℕ, suc, _+_, _-_, _*_, _%_}
 use native.Mathlib.Omega.{arith}
 use borrow.Author.Needs.{needs}
 use borrow.Author.Tests.{not-true, not-false}
 use lib.Dec.{T}
 use lib.IntN.{ℤ}
-use lib.ListN.{length, drop}
+use lib.ListN.{drop}
 use Rattle.algebra.specs.Table.{drop-further}
 use Rattle.rules.specs.Answers.{sum}
 use Rattle.rules.specs.Level.{Point}
@@ -21,12 +20,6 @@ use Rattle.fit.proofs.Sizes.{Counted, counted, area-within}
 use Rattle.fit.proofs.Raising.{raised-first, copied-past, refinable, addable, sums-checked, raised-next, refined-past, sum-refused}
 use Rattle.fit.proofs.raise_level.Statement.{statement}
 use Rattle.fit.proofs.raise_level.Tie as tie
-use Rattle.fit.proofs.raise_level.Reads as reads
-use Rattle.fit.proofs.raise_level.Lts as lts
-use Rattle.fit.proofs.cells.Reads as cells-reads
-use Rattle.fit_steps.proofs.add.Reads as add-reads
-use Rattle.fit_steps.proofs.copy_within.Reads as copy-within-reads
-use Rattle.fit_steps.proofs.refine_at.Reads as refine-at-reads
 
 -- ---- what is known behind each call
 
@@ -67,32 +60,32 @@ module _ (c : tie.After-add) where
   abbrev third : tie.After-refine-at
   third = c .before .before .before
 
-  abbrev one : tie.After-cells2
-  one = first (second third)
+  abbrev base : tie.After-cells2
+  base = first (second third)
 
   abbrev to : ℕ
-  to = k one % 2 * most one
+  to = k base % 2 * most base
 
   abbrev count : ℕ
-  count = (one .before .cells .result + 3) * (one .cells2 .result + 3)
+  count = (base .before .cells .result + 3) * (base .cells2 .result + 3)
 
   abbrev last : List ℤ
   last = c .add .last .1 .0
 
-  found : {ok : Bool} → c .add .result ≡ ok → (h : ℕ) (points : List Point) → Rising (a one h) points (most one) (k one) (whole one)
-      → sumCheck (a one h) points (k one) ≡ okCheck ok (sum (k one))
+  found : {ok : Bool} → c .add .result ≡ ok → (h : ℕ) (points : List Point) → Rising (a base h) points (most base) (k base) (whole base)
+      → sumCheck (a base h) points (k base) ≡ okCheck ok (sum (k base))
   found e h points r =
-      let s = start one .pre .0 in
+      let s = start base .pre .0 in
       let d = second third in
-      sums-checked r (s .0) (s .1) (one .before .cells .ensures) (one .cells2 .ensures) (k one - 1) (later d) (d .before .cells3 .ensures) (d .cells4 .ensures)
-      (third .refine-at .ensures) (c .add .ensures .0 (sum (k one)) ∙ ap (λ ok. okCheck ok (sum (k one))) e)
+      sums-checked r (s .0) (s .1) (base .before .cells .ensures) (base .cells2 .ensures) (k base - 1) (later d) (d .before .cells3 .ensures) (d .cells4 .ensures)
+      (third .refine-at .ensures) (c .add .ensures .0 (sum (k base)) ∙ ap (λ ok. okCheck ok (sum (k base))) e)
 
-  past : drop (2 * most one) last ≡ drop (2 * most one) (whole one)
+  past : drop (2 * most base) last ≡ drop (2 * most base) (whole base)
   past =
-      let s = start one .pre in
+      let s = start base .pre in
       let d = second third in
-      drop-further (to + count) (2 * most one) last (now third) (omega (arith, area-within (k one) (most one), counts one)) (c .add .ensures .1 .1 .1)
-      ∙ refined-past (s .1 .2) (s .0 .0) (s .0 .1) (one .before .cells .ensures) (one .cells2 .ensures) (k one - 1) (later d) (d .before .cells3 .ensures) (d .cells4 .ensures)
+      drop-further (to + count) (2 * most base) last (now third) (omega (arith, area-within (k base) (most base), counts base)) (c .add .ensures .1 .1 .1)
+      ∙ refined-past (s .1 .2) (s .0 .0) (s .0 .1) (base .before .cells .ensures) (base .cells2 .ensures) (k base - 1) (later d) (d .before .cells3 .ensures) (d .cells4 .ensures)
       (third .refine-at .ensures)
 
 -- ---- the needs

@@ -1,11 +1,8 @@
 -- `fit::run` meets its contract: the last running lattice and the last residuals are copied from their areas.
 use mathlib.Core.Path.{_≡_, ap, _∙_}
-use mathlib.Core.List.{List}
-use Prim.Native.Nat.{ℕ, _+_, _*_, _%_, _≤_}
+use Prim.Native.Nat.{_*_, _%_, _≤_}
 use native.Mathlib.Omega.{arith}
-use lib.IntN.{ℤ}
 use lib.ListN.{length}
-use Rattle.rules.specs.Level.{Point}
 use Rattle.rules.specs.Fit.{pointsOf}
 use Rattle.rules.specs.Laws.Fit.{listed}
 use Rattle.answers.specs.Cause.{check}
@@ -14,11 +11,6 @@ use Rattle.fit.proofs.Answering.{levels-refused, lattice-kept, levels-a
 use borrow.Author.Needs.{needs}
 use Rattle.fit.proofs.run.Statement.{statement}
 use Rattle.fit.proofs.run.Tie as tie
-use Rattle.fit.proofs.run.Reads as reads
-use Rattle.fit.proofs.run.Lts as lts
-use Rattle.fit.proofs.cells.Reads as cells-reads
-use Rattle.fit.proofs.fit_levels.Reads as fit-levels-reads
-use Rattle.fit_steps.proofs.copy.Reads as copy-reads
 
 module _ (c : tie.After-fit-levels) where
   abbrev start : tie.Start

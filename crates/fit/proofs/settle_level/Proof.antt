@@ -1,7 +1,7 @@
 -- `fit::settle_level` meets its contract: the sums settle to level lattice k, which is laid in its place, and its heights are taken from the residuals.
 use mathlib.Core.Path.{_≡_, sym, ap, subst, _∙_}
-use mathlib.Core.Bool.{Bool, true, false}
-use mathlib.Core.Option.{none, some}
+use mathlib.Core.Bool.{Bool}
+use mathlib.Core.Option.{none}
 use mathlib.Core.List.{List}
 use Prim.Native.Nat.{ℕ, _+_, _-_, _*_, _≤_}
 use native.Mathlib.Omega.{arith}
@@ -18,17 +18,11 @@ use Rattle.rules.specs.Level.{Point}
 use Rattle.rules.specs.Fit.{Shape, shape, quotientCheck, residualCheck}
 use Rattle.level_fit.specs.Sums as sums-of
 use Rattle.fit_steps.specs.Steps.{okCheck}
-use Rattle.fit.specs.Scratch.{Ready, Before}
+use Rattle.fit.specs.Scratch.{Before}
 use Rattle.fit.proofs.Sizes.{Counted}
-use Rattle.fit.proofs.Settling.{lent, returned, returned-past, cell-counts, fittable, lent-long, sums-past, quotients, level-laid, Placed, placed, lowerable, lowered-checked, settled, quotient-refused, residual-refused}
+use Rattle.fit.proofs.Settling.{returned, returned-past, cell-counts, fittable, lent-long, sums-past, quotients, level-laid, Placed, placed, lowerable, lowered-checked, settled, quotient-refused, residual-refused}
 use Rattle.fit.proofs.settle_level.Statement.{statement}
 use Rattle.fit.proofs.settle_level.Tie as tie
-use Rattle.fit.proofs.settle_level.Reads as reads
-use Rattle.fit.proofs.settle_level.Lts as lts
-use Rattle.fit.proofs.cells.Reads as cells-reads
-use Rattle.fit_steps.proofs.lower.Reads as lower-reads
-use Rattle.level_fit.proofs.gather.Reads as gather-reads
-use Rattle.level_fit.proofs.settle_all.Reads as settle-all-reads
 
 -- ---- what is known behind each call
 
@@ -101,39 +95,39 @@ module _ (c : tie.Else1) where
   abbrev third : tie.After-whole2
   third = c .before
 
-  abbrev two : tie.After-cells2
-  two = first (second third)
+  abbrev base : tie.After-cells2
+  base = first (second third)
 
-  room : 3 * most two + many two ≤ length (now third)
-  room = rw (long third) (start two .pre .0 .0 .whole-room)
+  room : 3 * most base + many base ≤ length (now third)
+  room = rw (long third) (start base .pre .0 .0 .whole-room)
 
-  in-place : (points : List Point) → At two points → Placed (a two) points (most two) (start two .args .k) (now third)
+  in-place : (points : List Point) → At base points → Placed (a base) points (most base) (start base .args .k) (now third)
   in-place points b =
-      let s = start two .pre .0 in
-      let m-is = two .before .cells .ensures in
-      let n-is = two .cells2 .ensures in
+      let s = start base .pre .0 in
+      let m-is = base .before .cells .ensures in
+      let n-is = base .cells2 .ensures in
       let ok = not-false (third .before .settle-all .result) (c .if1 .left) in
       placed (s .0) (s .1) m-is n-is b (s .0 .whole-room)
-      (level-laid (s .0) (s .1) m-is n-is b (start two .args .floats .now) (second third .gather .ensures) {part = part third} (omega (arith, s .0)) (third .before .settle-all .ensures .1 (subst T (sym ok) tt)))
+      (level-laid (s .0) (s .1) m-is n-is b (start base .args .floats .now) (second third .gather .ensures) {part = part third} (omega (arith, s .0)) (third .before .settle-all .ensures .1 (subst T (sym ok) tt)))
 
 module _ (c : tie.After-lower) where
   abbrev fourth : tie.Else1
   fourth = c .before .before
 
-  abbrev one : tie.After-cells2
-  one = two fourth
+  abbrev ground : tie.After-cells2
+  ground = base fourth
 
-  left-past : drop (3 * most one + many one) (c .lower .last .1 .1 .1 .1 .1 .0) ≡ drop (3 * most one + many one) (whole one)
+  left-past : drop (3 * most ground + many ground) (c .lower .last .1 .1 .1 .1 .1 .0) ≡ drop (3 * most ground + many ground) (whole ground)
   left-past = c .lower .ensures .1 .1 .1 ∙ whole-past (third fourth)
 
-  quotient-none : (points : List Point) → At one points → quotientCheck (a one) points (start one .args .k) ≡ none
+  quotient-none : (points : List Point) → At ground points → quotientCheck (a ground) points (start ground .args .k) ≡ none
   quotient-none = found (third fourth) (not-false _ (fourth .if1 .left))
 
-  lowered-found : {ok : Bool} → c .lower .result ≡ ok → (points : List Point) → At one points
-      → residualCheck (a one) points (start one .args .k) ≡ okCheck ok (residual (start one .args .k))
+  lowered-found : {ok : Bool} → c .lower .result ≡ ok → (points : List Point) → At ground points
+      → residualCheck (a ground) points (start ground .args .k) ≡ okCheck ok (residual (start ground .args .k))
   lowered-found e points b =
-      let s = start one in
-      lowered-checked (s .pre .0 .0) (s .pre .0 .1) (one .before .cells .ensures) (one .cells2 .ensures) b (in-place fourth points b) (room fourth)
+      let s = start ground in
+      lowered-checked (s .pre .0 .0) (s .pre .0 .1) (ground .before .cells .ensures) (ground .cells2 .ensures) b (in-place fourth points b) (room fourth)
       (c .lower .ensures .0 (residual (s .args .k)) ∙ ap (λ ok. okCheck ok (residual (s .args .k))) e)
 
 -- ---- the needs
@@ -231,8 +225,8 @@ returns c =
 lower-requires : tie.Need-lower-requires
 lower-requires c κs =
     let e = c .before in
-    let s = start (two e) .pre in
-    lowerable (s .0 .0) (s .0 .1) (two e .before .cells .ensures) (two e .cells2 .ensures) (s .1 .1) (in-place e (s .1 .0) (s .1 .1)) (room e)
+    let s = start (base e) .pre in
+    lowerable (s .0 .0) (s .0 .1) (base e .before .cells .ensures) (base e .cells2 .ensures) (s .1 .1) (in-place e (s .1 .0) (s .1 .1)) (room e)
 
 same-length-3 : tie.Need-same-length-3
 same-length-3 c = search needs
@@ -254,10 +248,10 @@ same-length-6 c = search needs
 returns-3 : tie.Need-returns-3
 returns-3 c =
     let p = c .before .before in
-    let s = start (one p) .pre .0 in
+    let s = start (ground p) .pre .0 in
     let ok = not-false (p .lower .result) (c .if2 .left) in (
       λ points b.
-          settled (s .0) (s .1) (one p .before .cells .ensures) (one p .cells2 .ensures) b (in-place (fourth p) points b) (room (fourth p))
+          settled (s .0) (s .1) (ground p .before .cells .ensures) (ground p .cells2 .ensures) b (in-place (fourth p) points b) (room (fourth p))
           (p .lower .ensures .1 .0 (subst T (sym ok) tt)) (quotient-none p points b) (lowered-found p ok points b),
       (left-past p, floats-past (second (third (fourth p)))),
     )
