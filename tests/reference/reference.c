@@ -1,6 +1,7 @@
 /*
- * Second implementation of document 01, written from document 01's text alone (and the same
- * authors' clarifications of it, open-points.md: the order and place of refusals, points 1 to 21).
+ * Second implementation of document 01, written from document 01's text and the clarifications of it
+ * that docs/DECISIONS.md holds (the order and place of refusals among them), never from the definitions or
+ * the code.
  *
  * Build with gcc -std=c99 -O3 -ffp-contract=off on x86-64: the level fit needs
  * every f64 operation rounded once, so no contraction and no wider registers.
