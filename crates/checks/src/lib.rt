@@ -1,12 +1,14 @@
 // The checks of lent lattices and cell counts that several calls share, in document 01's order.
 ghost use mathlib.Core.Path.{_≡_};
-ghost use Prim.Native.Nat.{ℕ, _≤_};
+ghost use Prim.Native.Nat.{ℕ, _+_, _≤_};
+ghost use lib.IntN.{natAbs};
 ghost use lib.ListN.{length};
 ghost use Rattle.rules.specs.Answers as rule;
 ghost use Rattle.rules.specs.Grid.{controls, inRange};
 ghost use Rattle.rules.specs.Calls.{cellsCheck, unitCheck, latticeCheck};
 ghost use Rattle.answers.specs.Cause.{check};
 ghost use Rattle.checks.specs.Found.{foundCheck, Exponent·says};
+ghost use Rattle.checks.specs.Scan.{headroom, allIn};
 use answers::Refusal;
 use answers::Verdict;
 
@@ -69,11 +71,39 @@ pub fn in_range(z: i64) -> bool
     true
 }
 
+// |z| + 2^63 - 1 - 4,000,000,000: below 2^63 exactly if z is in range.
+fn raised(z: i64) -> u64
+    ensures { λ r. ⌜ r ≡ natAbs z + headroom ⌝ }
+{
+    if 0 <= z {
+        (z as u64) + 9_223_372_032_854_775_807
+    } else {
+        ((-1 - z) as u64) + 9_223_372_032_854_775_808
+    }
+}
+
+// Whether the first n values are in range. The loop tests no value, so that it is fast: "or" keeps each one's top bit.
+fn all_in_range(values: &[i64], n: usize) -> bool
+    requires { ⌜ n ≤ length (now values) ⌝ }
+    ensures { λ r. ⌜ r ≡ allIn n (now (values .entry)) ⌝ }
+{
+    let mut bits = 0u64;
+    let mut i = 0;
+    while i < n {
+        bits = bits | raised(values[i]);
+        i += 1;
+    }
+    bits < 9_223_372_036_854_775_808
+}
+
 // The first of n values that is out of range. Every scan for an offender is this one.
 pub fn first_out(values: &[i64], n: usize) -> Found
     requires { ⌜ n ≤ length (now values) ⌝ }
     ensures { λ r. ⌜ ((f : ℕ → rule.Refusal) → rule.rangeCheck n (now (values .entry)) f ≡ foundCheck f r) ⌝ }
 {
+    if all_in_range(values, n) {
+        return Found::Nowhere;
+    }
     let mut i = 0;
     while i < n {
         if !in_range(values[i]) {

@@ -1,4 +1,5 @@
--- `checks::first_out` meets its contract. The loop's invariant: no value before i is out of range, so whatever refuses offenders, none is refused yet.
+-- `checks::first_out` meets its contract. Where not all values are in range, its loop finds the first that is not; the invariant: no value before i
+-- is out of range, so whatever refuses offenders, none is refused yet.
 use mathlib.Core.Path.{_≡_, refl, sym, ap, subst, _∙_}
 use mathlib.Core.Bool.{Bool}
 use Prim.Native.Nat.{_-_, _^_, _≤_, _<_}
@@ -15,6 +16,7 @@ use Rattle.machine.specs.Tests.{plain}
 use Rattle.rules.specs.Grid.{inRange}
 use Rattle.rules.specs.Answers.{firstOf, rangeCheck}
 use Rattle.rules.specs.Laws.Checks.{NoneOut, noneOut-more, noneOut-at}
+use Rattle.checks.specs.Scan.{allIn, allIn-none}
 use Rattle.checks.proofs.first_out.Statement.{statement}
 use Rattle.checks.proofs.first_out.Tie as tie
 
@@ -30,7 +32,13 @@ tested z b fits e = e ∙ ap inRange (plain z fits)
 
 -- the value that a turn reads
 abbrev value : tie.At-loop Inv-loop μ-loop → ℤ
-value p = getD (p .before .args .values .now) (p .loop .i) (pos 0)
+value p = getD (p .before .before .before .args .values .now) (p .loop .i) (pos 0)
+
+all-in-range-requires : tie.Need-all-in-range-requires Inv-loop μ-loop
+all-in-range-requires c κs = omega arith
+
+returns : tie.Need-returns Inv-loop μ-loop
+returns c = allIn-none _ _ (subst T (sym (c .if1 .taken) ∙ c .before .all-in-range .ensures) tt)
 
 loop-holds : tie.Need-loop-holds Inv-loop μ-loop
 unfolding rangeCheck firstOf
@@ -45,10 +53,10 @@ shared-slice-copy-out-in-range c = omega arith
 in-range-requires : tie.Need-in-range-requires Inv-loop μ-loop
 in-range-requires c κs = search needs
 
-returns : tie.Need-returns Inv-loop μ-loop
-returns c =
+returns-2 : tie.Need-returns-2 Inv-loop μ-loop
+returns-2 c =
     let p = c .before .before .before .before in
-    noneOut-at _ _ _ (p .loop .inv .1) (c .before .before .before .loop-test .taken) (sym (tested (value p) _ (c .before .before .in-range-arg .given) (c .before .in-range .ensures)) ∙ not-true _ (c .if1 .taken))
+    noneOut-at _ _ _ (p .loop .inv .1) (c .before .before .before .loop-test .taken) (sym (tested (value p) _ (c .before .before .in-range-arg .given) (c .before .in-range .ensures)) ∙ not-true _ (c .if2 .taken))
 
 add-i : tie.Need-add-i Inv-loop μ-loop
 add-i c = omega arith
@@ -59,15 +67,28 @@ loop-less c = omega arith
 loop-again : tie.Need-loop-again Inv-loop μ-loop
 loop-again c =
     let p = c .before .before .before .before in
-    (omega arith, noneOut-more _ _ (p .loop .inv .1) (subst T (sym (not-false _ (c .if1 .left)) ∙ tested (value p) _ (c .before .before .in-range-arg .given) (c .before .in-range .ensures)) tt))
+    (omega arith, noneOut-more _ _ (p .loop .inv .1) (subst T (sym (not-false _ (c .if2 .left)) ∙ tested (value p) _ (c .before .before .in-range-arg .given) (c .before .in-range .ensures)) tt))
 
-returns-2 : tie.Need-returns-2 Inv-loop μ-loop
-returns-2 c =
+returns-3 : tie.Need-returns-3 Inv-loop μ-loop
+returns-3 c =
     let p = c .before in
-    let last : p .before .args .n ≡ p .loop .i = omega arith in
+    let last : p .before .before .before .args .n ≡ p .loop .i = omega arith in
     rw last (p .loop .inv .1)
 
 pub first-out-spec : {M : Type 1} → statement M
 first-out-spec =
     tie.close
-    (tie.spec Inv-loop μ-loop loop-holds mul-in-range shared-slice-copy-out-in-range in-range-requires returns add-i loop-less loop-again returns-2)
+    (tie.spec
+    Inv-loop
+    μ-loop
+    all-in-range-requires
+    returns
+    loop-holds
+    mul-in-range
+    shared-slice-copy-out-in-range
+    in-range-requires
+    returns-2
+    add-i
+    loop-less
+    loop-again
+    returns-3)
