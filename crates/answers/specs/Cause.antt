@@ -1,4 +1,5 @@
 -- The code's refusals and verdicts as those of the rules: `number` and `place` of the rules then give document 01's number and place for each case.
+use mathlib.Core.Bool.{Bool, true, false}
 use mathlib.Core.Option.{none, some}
 use Rattle.rules.specs.Answers as rule
 use Rattle.answers.specs.declared.Refusal.{Refusal}
@@ -26,3 +27,8 @@ cause (Trailing b) = rule.trailing b
 abbrev pub check : Verdict → rule.Check
 check Fine = none
 check (Refused r) = some (cause r)
+
+-- what a yes or no says of a check that r refuses
+abbrev pub okCheck : Bool → rule.Refusal → rule.Check
+okCheck true r = none
+okCheck false r = some r

@@ -15,9 +15,9 @@ use Rattle.rules.specs.Grid.{cellsAt, inside}
 use Rattle.rules.specs.Level.{Point, zero64}
 use Rattle.rules.specs.Fit.{Shape, columns, rows, pointsOf, running, quotientCheck, residualCheck, sumCheck, levelCheck, levelsCheck}
 use Rattle.rules.specs.Calls.{Cells, Lent, K, cellsCheck, levelsCountCheck, listsCheck, lentCheck, pointsCheck, fitCheck, fitAnswer, fitLeaves, cleared}
-use Rattle.rules.specs.Laws.Checks.{Only, only-require, only-then, only-firstOf, only-rangeCheck, required, both, AllInRange}
+use Rattle.rules.specs.Laws.Checks.{Only, only-require, only-then, only-firstOf, only-rangeCheck, required, both, AllInRange, then-assoc}
 use Rattle.rules.specs.Laws.Fit.{residualList}
-use Rattle.survey.specs.Passed.{Bounded, points-passed, then-assoc, cellsAt-most}
+use Rattle.survey.specs.Passed.{Bounded, points-passed, cellsAt-most}
 use Rattle.fit.specs.Fitted.{levelsAnswer}
 use Rattle.fit.specs.Scratch.{Sized, Ready, Levelled, places}
 use Rattle.fit.proofs.Sizes.{count-is}

@@ -17,11 +17,11 @@ use Rattle.rules.specs.Fit.{Shape, columns, rows, level, raised, running, sumCh
 use Rattle.rules.specs.Laws.Checks.{AllInRange, rangeCheck-size}
 use Rattle.rules.specs.Laws.Levels.{cells-double}
 use Rattle.rules.specs.Laws.Surface.{length-store, store-within, refined-within, control-within}
-use Rattle.rules.specs.Laws.Fit.{first-sums, next-running}
+use Rattle.rules.specs.Laws.Fit.{first-sums, next-running, length-level, length-running}
 use Rattle.fit_steps.specs.Steps.{summed}
 use Rattle.fit.specs.Scratch.{Sized, Runs, Rising, Raised, places}
 use Rattle.fit.proofs.Sizes.{Counted, counted, count-is, sized-before, area-within}
-use Rattle.fit.proofs.Settling.{length-level, level-ranged, refused-not}
+use Rattle.fit.proofs.Settling.{level-ranged, refused-not}
 
 -- running lattices stand by turns at 0 and at `most`
 turns : (j k most : ℕ) → k ≡ suc j → ((j % 2 * most ≡ 0) × (k % 2 * most ≡ most)) ⊎ ((j % 2 * most ≡ most) × (k % 2 * most ≡ 0))
@@ -33,11 +33,6 @@ turns j k most e = go (decLt (j % 2) 1)
     go : Dec (j % 2 < 1) → ((j % 2 * most ≡ 0) × (k % 2 * most ≡ most)) ⊎ ((j % 2 * most ≡ most) × (k % 2 * most ≡ 0))
     go (yes l) = inl (omega (arith, times j 0 (omega arith)), omega (arith, times k 1 (omega arith)))
     go (no g) = inr (omega (arith, times j 1 (omega arith)), omega (arith, times k 0 (omega arith)))
-
-length-running : (a : Shape) (points : List Point) (k : ℕ) → length (running a points k) ≡ places a k
-unfolding running raised
-length-running a points zero = length-level a points 0
-length-running a points (suc k) = length-store (columns a (suc k)) (rows a (suc k)) _
 
 -- running lattice j refined, as it is stored
 refinedRunning : Shape → List Point → ℕ → List ℤ

@@ -16,8 +16,7 @@ use Rattle.rules.specs.Surface.{height}
 use Rattle.rules.specs.Level.{Point}
 use Rattle.rules.specs.Fit.{Shape, columns, rows, unitOf, pointsOf, valueAt, present, orZero, levelOf, residuals, level, quotientCheck, residualCheck}
 use Rattle.rules.specs.Laws.Checks.{AllInRange, rangeCheck-size, then-none}
-use Rattle.rules.specs.Laws.Surface.{length-store}
-use Rattle.rules.specs.Laws.Fit.{listed-points, residualList, residuals-listed, length-residuals, level-size, next-residuals}
+use Rattle.rules.specs.Laws.Fit.{listed-points, residualList, residuals-listed, length-residuals, level-size, next-residuals, length-level}
 use Rattle.level_fit.specs.Sums.{sumTable, settledAt, Fittable}
 use Rattle.level_fit.specs.Level.{values-table, refused-table}
 use Rattle.fit_steps.specs.Steps.{lowered, Lowerable}
@@ -50,10 +49,6 @@ pub runs-kept : {a : Shape} {points : List Point} {most k : ℕ} {whole : List �
     → places a k ≤ most → 2 * most ≤ n → n ≤ length whole → Runs a points most k (laid n r whole)
 runs-kept {a = a} {most = most} {k = k} {whole = whole} n r p few h l =
     record { is = area-apart (k % 2 * most) (places a k) n r whole (inl (omega (arith, area-within k most))) l ∙ p .is; ranged = p .ranged }
-
-pub length-level : (a : Shape) (points : List Point) (k : ℕ) → length (level a points k) ≡ places a k
-unfolding level levelOf
-length-level a points k = length-store (columns a k) (rows a k) _
 
 pub level-ranged : (a : Shape) (points : List Point) (k : ℕ) → AllInRange (places a k) (level a points k)
 unfolding level

@@ -13,9 +13,8 @@ use Rattle.algebra.specs.Table.{over, laid, area, laid-part, area-laid, drop-fu
 use Rattle.rules.specs.Answers.{Refusal, Check, _then_, firstOf}
 use Rattle.rules.specs.Level.{Point}
 use Rattle.rules.specs.Fit.{Shape, pointsOf, residuals, levelCheck, levelsCheck, quotientCheck, residualCheck, sumCheck}
-use Rattle.rules.specs.Laws.Checks.{AllInRange, then-none, firstOf-at}
+use Rattle.rules.specs.Laws.Checks.{AllInRange, then-none, then-assoc, firstOf-at}
 use Rattle.rules.specs.Laws.Fit.{Listed, listed, residualList}
-use Rattle.survey.specs.Passed.{then-assoc}
 use Rattle.fit.specs.Scratch.{Ready, Before, Left, Runs, Settled, Raised, Stepped, Levelled}
 use Rattle.fit.proofs.Sizes.{listed-many}
 use Rattle.fit.proofs.Settling.{lent, returned, refused-not}

@@ -12,7 +12,7 @@ use Rattle.algebra.specs.Table.{tabulate, laid, getD-tabulate}
 use Rattle.rules.specs.Grid.{inRange}
 use Rattle.rules.specs.Answers.{Refusal, rangeCheck, firstOf}
 use Rattle.rules.specs.Laws.Checks.{NoneOut, noneOut-more, noneOut-at}
-use Rattle.fit_steps.specs.Steps.{okCheck}
+use Rattle.answers.specs.Cause.{okCheck}
 use Rattle.fit_steps.proofs.Partly.{Partly, begun, stored, rest-kept, finished}
 
 -- l is the scratch d with the first i of count values f laid from n on, none of them out of range

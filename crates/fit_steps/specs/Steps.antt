@@ -1,13 +1,10 @@
 -- What the steps' contracts cite beside the rules.
 use Prim.Native.Nat.{ℕ, _+_, _*_, _^_, _≤_, _<_}
-use mathlib.Core.Bool.{Bool, true, false}
-use mathlib.Core.Option.{none, some}
 use mathlib.Core.Path.{_≡_}
 use mathlib.Core.List.{List}
 use lib.IntN.{ℤ, pos, natAbs, _+ℤ_, _-ℤ_}
 use lib.ListN.{length, getD}
 use Rattle.algebra.specs.Table.{tabulate, area}
-use Rattle.rules.specs.Answers as answer
 use Rattle.rules.specs.Grid.{limit, controls, control}
 use Rattle.rules.specs.Surface.{height}
 use Rattle.rules.specs.Laws.Checks.{AllInRange}
@@ -26,11 +23,6 @@ summedAt whole level to q = getD whole (to + q) (pos 0) +ℤ getD whole (level +
 
 unfoldable pub summed : ℕ → List ℤ → ℕ → ℕ → List ℤ
 summed count whole level to = tabulate count (summedAt whole level to)
-
--- what a step's answer says, where r refuses
-abbrev pub okCheck : Bool → answer.Refusal → answer.Check
-okCheck true r = none
-okCheck false r = some r
 
 -- points, a level lattice and residuals that the lattice can be read at and taken from
 pub record Lowerable (m n e : ℕ) (xs ys : List ℕ) (whole : List ℤ) (level residuals : ℕ) : Type 0 where

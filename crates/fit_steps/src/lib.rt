@@ -10,7 +10,8 @@ ghost use Rattle.rules.specs.Answers as answer;
 ghost use Rattle.rules.specs.Grid.{controls, control, store};
 ghost use Rattle.rules.specs.Refinement.{refined};
 ghost use Rattle.rules.specs.Laws.Checks.{AllInRange};
-ghost use Rattle.fit_steps.specs.Steps.{lowered, summed, okCheck, Lowerable};
+ghost use Rattle.answers.specs.Cause.{okCheck};
+ghost use Rattle.fit_steps.specs.Steps.{lowered, summed, Lowerable};
 
 // "take from each residual the height of level lattice k there": false where a residual leaves its range
 pub fn lower(

@@ -1,14 +1,12 @@
 -- What the level fit's contracts cite beside the rules: the code's sums and coefficients as those of the rules, and how sums stand in f64 scratch.
 use Prim.Native.Nat.{ℕ, zero, suc, _+_, _*_, _/_, _%_, _^_, _≤_, _<_}
 use mathlib.Core.Path.{_≡_}
-use mathlib.Core.Bool.{Bool, true, false}
-use mathlib.Core.Option.{Option, none, some}
+use mathlib.Core.Option.{Option}
 use mathlib.Core.List.{List, [], _∷_}
 use lib.IntN.{ℤ}
 use lib.Ieee.{Float, nan}
 use lib.ListN.{length, getD, set}
 use Rattle.algebra.specs.Table.{tabulate}
-use Rattle.rules.specs.Answers as answer
 use Rattle.rules.specs.Grid.{controls}
 use Rattle.rules.specs.Surface.{cell}
 use Rattle.rules.specs.Level as rule
@@ -82,10 +80,6 @@ sumTable U m n points =
 -- the control value that the pair at place q settles to, none where it is refused
 unfoldable pub settledAt : List Float → ℕ → Option ℤ
 settledAt sums q = rule.settled (rule.coefficient (pairAt sums q))
-
-abbrev pub okCheck : Bool → answer.Refusal → answer.Check
-okCheck true r = none
-okCheck false r = some r
 
 -- a position in m by n cells of 2^e positions, whose sums stand in scratch of that length
 pub record Fitting (m n e x y long : ℕ) : Type 0 where

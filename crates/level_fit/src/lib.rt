@@ -10,7 +10,8 @@ ghost use Rattle.rules.specs.Grid.{controls};
 ghost use Rattle.rules.specs.Level as rule;
 ghost use Rattle.rules.specs.Fit.{pointsOf, present, orZero};
 ghost use Rattle.float_near.specs.Settled.{settled};
-ghost use Rattle.level_fit.specs.Sums.{blockOf, weightAt, sumsOf, coefficientOf, change, row, blockAdded, pointAdded, sumTable, settledAt, okCheck, Fitting, Fittable};
+ghost use Rattle.answers.specs.Cause.{okCheck};
+ghost use Rattle.level_fit.specs.Sums.{blockOf, weightAt, sumsOf, coefficientOf, change, row, blockAdded, pointAdded, sumTable, settledAt, Fitting, Fittable};
 use float_near::Settled;
 
 // The two running sums of a control value.

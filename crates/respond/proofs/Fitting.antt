@@ -11,7 +11,7 @@ use lib.ListN.{length, replicate, length-replicate}
 use Rattle.algebra.specs.Table.{over}
 use Rattle.rules.specs.Grid.{controls, control}
 use Rattle.rules.specs.Level.{Point}
-use Rattle.rules.specs.Fit.{Shape, columns, rows, pointsOf, level, levelOf, raised, running, levelsCheck}
+use Rattle.rules.specs.Fit.{Shape, columns, rows, pointsOf, running, levelsCheck}
 use Rattle.rules.specs.Answers.{Refusal, require, accepted, refused, left}
 use Rattle.rules.specs.Calls.{Cells, Lent, K, lentCheck, fitCheck, fitAnswer, fitLeaves}
 use Rattle.rules.specs.Bytes.{bytesOf, valueBytes}
@@ -19,8 +19,9 @@ use Rattle.rules.specs.LatticeFile.{LH, LR, LE, rowRecord, latticeFile, rowLeng
 use Rattle.rules.specs.PointFile.{pointFileLength, writePointsCheck}
 use Rattle.rules.specs.Program.{refusedLine, written}
 use Rattle.rules.specs.Laws.Checks.{then-first, then-rest, then-none, answer-none, answer-value, answer-refused}
+use Rattle.rules.specs.Laws.Fit.{length-running}
 use Rattle.rules.specs.Laws.PointFile.{writer-accepts}
-use Rattle.rules.specs.Laws.Surface.{Same, length-store, control-over}
+use Rattle.rules.specs.Laws.Surface.{Same, control-over}
 use Rattle.codec.specs.Laid.{joined-same}
 use Rattle.respond.specs.Taken.{Taken, answered}
 
@@ -37,11 +38,6 @@ controls-most h k = mul-le-mul {n₂ = 19} {m₂ = 19} (omega arith) (omega arit
 file-most : {m n : ℕ} → m ≤ 16 → n ≤ 16 → latticeFileLength m n ≤ 2_974
 unfolding latticeFileLength rowStart rowLength
 file-most {m} {n} h k = let most : (n + 3) * (4 + 8 * (m + 3)) ≤ 2_964 = mul-le-mul {n₂ = 19} {m₂ = 156} (omega arith) (omega arith) in omega arith
-
-running-length : (a : Shape) (points : List Point) (k : ℕ) → length (running a points k) ≡ controls (columns a k) (rows a k)
-unfolding running level levelOf raised
-running-length a points zero = length-store (columns a 0) (rows a 0) _
-running-length a points (suc k) = length-store (columns a (suc k)) (rows a (suc k)) _
 
 -- ---- a file depends on the control values alone
 
@@ -118,5 +114,5 @@ module _ {a : Shape} {xs ys : List ℕ} {zs : List ℤ} (t : Taken a xs ys zs) (
     file-is l p =
         let points = pointsOf xs ys zs in
         ap (latticeFile m n) (p ∙ ap (λ x. left x (running a points (a .h)) (w .lattice)) (sym e))
-        ∙ file-reads m n _ _ (control-over m n (running a points (a .h)) (w .lattice) (running-length a points (a .h) ∙ ap₂ controls across up))
+        ∙ file-reads m n _ _ (control-over m n (running a points (a .h)) (w .lattice) (length-running a points (a .h) ∙ ap₂ controls across up))
         ∙ sym answer-is

@@ -1,6 +1,6 @@
 -- What a survey's checks that refuse nothing have shown: the bounds that the fit and the point writer go on with.
 use Prim.Native.Nat.{ℕ, _*_, _%_, _^_, _≤_, _<_}
-use mathlib.Core.Path.{_≡_, refl, sym}
+use mathlib.Core.Path.{_≡_, sym}
 use mathlib.Core.Bool.{_&&_}
 use mathlib.Core.Option.{none, some}
 use mathlib.Core.List.{List}
@@ -46,12 +46,6 @@ head-passed m0 n0 h xs ys zs e =
       levels = levels-passed h (then-first (levelsCountCheck h) (listsCheck xs ys zs) rest);
       lists = lists-passed xs ys zs (then-rest (levelsCountCheck h) (listsCheck xs ys zs) rest);
     }
-
--- what follows `head`, as one run of checks with it
-pub then-assoc : (c d e : Check) → ((c then d) then e) ≡ (c then d then e)
-unfolding _then_
-then-assoc none d e = refl
-then-assoc (some r) d e = refl
 
 -- the cells a side of level h, at most 16 × 2^5
 pub cellsAt-most : (m0 h : ℕ) → m0 ≤ 16 → h ≤ 5 → cellsAt m0 h ≤ 512

@@ -13,7 +13,7 @@ use Rattle.algebra.specs.Table.{drop-further}
 use Rattle.rules.specs.Answers.{sum}
 use Rattle.rules.specs.Level.{Point}
 use Rattle.rules.specs.Fit.{Shape, shape, sumCheck}
-use Rattle.fit_steps.specs.Steps.{okCheck}
+use Rattle.answers.specs.Cause.{okCheck}
 use Rattle.survey.specs.Passed.{cellsAt-most}
 use Rattle.fit.specs.Scratch.{Rising}
 use Rattle.fit.proofs.Sizes.{Counted, counted, area-within}

@@ -16,8 +16,7 @@ use Rattle.rules.specs.Answers.{quotient, residual}
 use Rattle.rules.specs.Grid.{controls}
 use Rattle.rules.specs.Level.{Point}
 use Rattle.rules.specs.Fit.{Shape, shape, quotientCheck, residualCheck}
-use Rattle.level_fit.specs.Sums as sums-of
-use Rattle.fit_steps.specs.Steps.{okCheck}
+use Rattle.answers.specs.Cause.{okCheck}
 use Rattle.fit.specs.Scratch.{Before}
 use Rattle.fit.proofs.Sizes.{Counted}
 use Rattle.fit.proofs.Settling.{returned, returned-past, cell-counts, fittable, lent-long, sums-past, quotients, level-laid, Placed, placed, lowerable, lowered-checked, settled, quotient-refused, residual-refused}
@@ -89,7 +88,7 @@ module _ (c : tie.After-whole2) where
   found e points b =
       let s = start (first second) in
       quotients (s .pre .0 .0) (s .pre .0 .1) (first second .before .cells .ensures) (first second .cells2 .ensures) b (s .args .floats .now) (second .gather .ensures)
-      (c .before .settle-all .ensures .0 (quotient (s .args .k)) ∙ ap (λ ok. sums-of.okCheck ok (quotient (s .args .k))) e)
+      (c .before .settle-all .ensures .0 (quotient (s .args .k)) ∙ ap (λ ok. okCheck ok (quotient (s .args .k))) e)
 
 module _ (c : tie.Else1) where
   abbrev third : tie.After-whole2

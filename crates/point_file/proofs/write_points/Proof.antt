@@ -16,7 +16,8 @@ use Rattle.rules.specs.Answers.{Refusal, Check, require, _then_, short, Answer,
 use Rattle.rules.specs.Bytes.{bytesOf}
 use Rattle.rules.specs.Calls.{cellsCheck, levelsCountCheck, listsCheck, pointsCheck}
 use Rattle.rules.specs.PointFile.{PH, pointFile, pointStart, pointFileLength, writePointsCheck, writePointsAnswer, writePointsLeaves}
-use Rattle.survey.specs.Passed.{Bounded, head-passed, then-assoc, cellsAt-most, cellsAt-shifted}
+use Rattle.rules.specs.Laws.Checks.{then-assoc}
+use Rattle.survey.specs.Passed.{Bounded, head-passed, cellsAt-most, cellsAt-shifted}
 use Rattle.point_file.specs.Told.{headBytes, recordOf}
 use Rattle.point_file.proofs.write_points.Statement.{statement}
 use Rattle.point_file.proofs.write_points.Tie as tie

@@ -55,6 +55,11 @@ pub then-none : (c d : Check) → c ≡ none → (c then d) ≡ d
 unfolding _then_
 then-none c d e = rw e refl
 
+pub then-assoc : (c d e : Check) → ((c then d) then e) ≡ (c then d then e)
+unfolding _then_
+then-assoc none d e = refl
+then-assoc (some r) d e = refl
+
 -- ---- the first of many
 
 pub firstOf-none : (n : ℕ) (f : ℕ → Check) → firstOf n f ≡ none → (i : ℕ) → i < n → f i ≡ none

@@ -25,7 +25,8 @@ use Rattle.rules.specs.Calls.{Cells, Lent, cellsCheck, unitCheck, levels
 use Rattle.rules.specs.Laws.Rounding.{near-exact}
 use Rattle.rules.specs.Laws.Checks.{required, require-met, both, within-bounds, then-first, then-rest, then-none, firstOf-none, answer-none, answer-value}
 use Rattle.rules.specs.Laws.Checks.{AllInRange, rangeCheck-size, size-rangeCheck}
-use Rattle.rules.specs.Laws.Surface.{Inside, full, surface-reads, height-distance, length-store, control-store, control-over}
+use Rattle.rules.specs.Laws.Surface.{Inside, full, surface-reads, height-distance, control-store, control-over}
+use Rattle.rules.specs.Laws.Fit.{length-running}
 use Rattle.rules.specs.Laws.Levels.{Multiples, Levels, surfaceAt, surfacesTo, full-power, surface-off, surface-equal}
 
 -- ---- what demand 3 says of a position
@@ -82,11 +83,6 @@ module _ (a : Shape) (points : List Point) where
   theT-levels : (x y : ℕ) → theT a points x y ≡ surfacesTo (a .m0) (a .n0) x y 16 (a .h) levelAt
   unfolding theT levelSurface unitOf unitAt columns rows surfacesTo surfaceAt levelAt
   theT-levels x y = refl
-
-  running-length : (k : ℕ) → length (running a points k) ≡ controls (columns a k) (rows a k)
-  unfolding running level levelOf raised
-  running-length zero = length-store (columns a 0) (rows a 0) _
-  running-length (suc k) = length-store (columns a (suc k)) (rows a (suc k)) _
 
 -- ---- cell counts that are checked
 
@@ -186,10 +182,10 @@ module _ (a : Shape) (points : List Point) (old : List ℤ) where
 
   lattice-long : controls (finest a .m) (finest a .n) ≤ length lattice
   unfolding over
-  lattice-long = let r = running a points (a .h) in omega (arith, running-length a points (a .h), length-append r (drop (length r) old))
+  lattice-long = let r = running a points (a .h) in omega (arith, length-running a points (a .h), length-append r (drop (length r) old))
 
   lattice-ranged : Shown a points → AllInRange (controls (finest a .m) (finest a .n)) lattice
-  lattice-ranged s i l = rw (getD-over (running a points (a .h)) old i (pos 0) (rw (running-length a points (a .h)) l)) (s .sums i l)
+  lattice-ranged s i l = rw (getD-over (running a points (a .h)) old i (pos 0) (rw (length-running a points (a .h)) l)) (s .sums i l)
 
   module _ (x y : ℕ) (i : Inside 16 (finest a .m) (finest a .n) x y) where
     -- V is the surface of the last running lattice
@@ -197,7 +193,7 @@ module _ (a : Shape) (points : List Point) (old : List ℤ) where
     unfolding theV surfaceAt columns rows runningAt
     lattice-surface =
         let r = running a points (a .h) in
-        let same = control-over (finest a .m) (finest a .n) r old (running-length a points (a .h)) in
+        let same = control-over (finest a .m) (finest a .n) r old (length-running a points (a .h)) in
         ap (λ z. pos (64 ^ a .h) *ℤ z) (surface-reads 16 (finest a .m) (finest a .n) (i .across) (i .up) _ _ same x y)
 
     V-off : natAbs (pos 2 *ℤ (theV (a .h) (finest a .m) (finest a .n) lattice x y -ℤ theT a points x y)) ≤ a .h * theD (a .h)

@@ -19,6 +19,7 @@ use Rattle.rules.specs.Fit.{Shape, columns, rows, unitOf, pointsOf, valu
 use Rattle.rules.specs.Answers.{sum}
 use Rattle.rules.specs.Laws.Checks.{AllInRange, inRange-size, size-rangeCheck}
 use Rattle.rules.specs.Laws.Levels.{cells-double}
+use Rattle.rules.specs.Laws.Surface.{length-store}
 
 -- ---- points and their three lists
 
@@ -156,3 +157,14 @@ next-running a points k =
   where
     count : ℕ
     count = controls (columns a (suc k)) (rows a (suc k))
+
+-- ---- the places of a level's lattices
+
+pub length-level : (a : Shape) (points : List Point) (k : ℕ) → length (level a points k) ≡ controls (columns a k) (rows a k)
+unfolding level levelOf
+length-level a points k = length-store (columns a k) (rows a k) _
+
+pub length-running : (a : Shape) (points : List Point) (k : ℕ) → length (running a points k) ≡ controls (columns a k) (rows a k)
+unfolding running raised
+length-running a points zero = length-level a points 0
+length-running a points (suc k) = length-store (columns a (suc k)) (rows a (suc k)) _
