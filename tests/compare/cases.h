@@ -11,9 +11,9 @@ typedef void test_case(generator *g, size_class size);
 
 /*
  * The surface engine. The fits of range_end_case are the last that 7 lets pass and the first that it refuses; those of
- * tie_case have quotients that are exact halves.
+ * leap_case are refused in late levels too; those of tie_case have quotients that are exact halves.
  */
-test_case fit_case, range_end_case, tie_case, height_case, refine_case, raster_case;
+test_case fit_case, range_end_case, leap_case, tie_case, height_case, refine_case, raster_case;
 
 /* The two files: written, then read back whole or damaged. */
 test_case lattice_file_case, point_file_case;

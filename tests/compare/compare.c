@@ -36,8 +36,8 @@ static const struct {
     test_case *run;
     size_t weight;
 } kinds[] = {
-    { fit_case, 200 }, { range_end_case, 10 }, { tie_case, 50 }, { height_case, 150 }, { refine_case, 100 },
-    { raster_case, 200 }, { lattice_file_case, 150 }, { point_file_case, 150 },
+    { fit_case, 200 }, { range_end_case, 10 }, { leap_case, 20 }, { tie_case, 50 }, { height_case, 150 },
+    { refine_case, 100 }, { raster_case, 200 }, { lattice_file_case, 150 }, { point_file_case, 150 },
     { demand3_case, 3 }, { exact_case, 2 }, { half_case, 30 },
 };
 
@@ -104,7 +104,10 @@ static void print_compared(void)
         }
         printf("\n");
     }
-    printf("%zu calls, no difference\n", all);
+    printf("%-24s", "fits refused in level");
+    for (n = 0; n < LEVELS; n++)
+        printf("  %zu: %zu", n, refused_in_level[n]);
+    printf("\n%zu calls, no difference\n", all);
 }
 
 static int usage(void)

@@ -91,6 +91,40 @@ void range_end_case(generator *g, size_class size)
     }
 }
 
+/* ---- fits that are refused late ---- */
+
+/* A position at most reach from near, on its far side if that is inside. */
+static uint16_t beside(generator *g, size_t near, size_t reach, size_t far)
+{
+    const size_t at = near + below(g, reach + 1);
+    return (uint16_t)(at <= far ? at : far);
+}
+
+/*
+ * Points beside each other, by turns high and low: a level whose cells don't tell them apart sees little of them, so that
+ * the fit comes to a level that does, and is often refused there.
+ */
+void leap_case(generator *g, size_class size)
+{
+    draft d = new_draft(FIT);
+    const size_t points = 2 + below(g, 3), reach = (size_t)1 << below(g, 9);
+    uint16_t *x = d.call.slice[X].at, *y = d.call.slice[Y].at;
+    int64_t *z = d.call.slice[Z].at;
+    size_t at;
+
+    (void)size;
+    d.call.number[M] = d.call.number[N] = 1;
+    d.call.number[H] = below(g, LEVELS);
+    some_points(g, &d, points);
+    for (at = 0; at < points; at++) {
+        x[at] = beside(g, x[0], at == 0 ? 0 : reach, d.far_x);
+        y[at] = beside(g, y[0], at == 0 ? 0 : reach, d.far_y);
+        z[at] = between(g, LIMIT / 3, LIMIT) * (at % 2 == 0 ? 1 : -1);
+    }
+    lend_fit(g, &d);
+    trial(&d.call);
+}
+
 /* ---- fits whose quotients are halves ---- */
 
 /*

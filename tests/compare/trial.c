@@ -37,6 +37,7 @@ const size_t capacity[SLICES] = {
 };
 
 size_t compared[FUNCTIONS][MOST_NUMBER + 1];
+size_t refused_in_level[LEVELS];
 
 enum { LIBRARY, REFERENCE, SIDES };
 
@@ -379,6 +380,8 @@ answer trial(const call *c)
         if (takes(c->function, r))
             compare_slice(c, answers[LIBRARY], r, images[LIBRARY][r], images[REFERENCE][r]);
     compared[c->function][answers[LIBRARY].field[NUMBER]]++;
+    if (answers[LIBRARY].field[NUMBER] == 7)
+        refused_in_level[answers[LIBRARY].field[PLACE]]++;
 
     for (r = X; r < SLICES; r++)
         if (writes(c->function, r) && c->slice[r].length > 0)

@@ -14,6 +14,10 @@ extern const size_t capacity[SLICES];
 /* How many calls of each function were compared, by the number of the answer. */
 extern size_t compared[FUNCTIONS][MOST_NUMBER + 1];
 
+/* How many fits were refused by 7, by the level. */
+#define LEVELS 6
+extern size_t refused_in_level[LEVELS];
+
 /* Names the calls that follow, for the report, and settles where their slices lie between the fences. */
 void trial_name(const char *name, uint64_t seed);
 

@@ -1,95 +1,55 @@
 /*
- * Second implementation of document 01, written from document 01's text and the clarifications of it
- * that docs/DECISIONS.md holds (the order and place of refusals among them), never from the definitions or
- * the code.
+ * A second implementation of document 01, written from document 01's text
+ * alone: its author had that paper and the interface reference.h, and neither
+ * the definitions, nor the library's code, nor any paper that explains document 01.
+ * README.md says how its author read what the text leaves open.
  *
- * Build with gcc -std=c99 -O3 -ffp-contract=off on x86-64: the level fit needs
- * every f64 operation rounded once, so no contraction and no wider registers.
+ * Compile with
+ *     gcc -std=c99 -Wall -Wextra -pedantic -O3 -ffp-contract=off
+ * Document 01 wants the level fit "in f64, each operation rounded once, in this
+ * order". So a multiplication and an addition may not be contracted into one
+ * fused operation, sums may not be regrouped (no -ffast-math), and f64
+ * operations may not be carried out in a wider format.
  */
 #include "reference.h"
 
 #include <float.h>
+#include <inttypes.h>
 #include <stdio.h>
 #include <string.h>
 
-#if FLT_EVAL_METHOD != 0
-#error "each f64 operation must be rounded once, to f64"
+#if !defined(FLT_EVAL_METHOD) || FLT_EVAL_METHOD != 0 || defined(__FAST_MATH__)
+#error "document 01: all in f64, each operation rounded once, in this order"
 #endif
 
-#define LIMIT INT64_C(4000000000)      /* "in range": -LIMIT to LIMIT */
+#define BOUND INT64_C(4000000000)   /* heights, control values, residuals: -BOUND to BOUND */
+#define MAX_COARSEST 16             /* coarsest cells a side of a fit */
+#define MAX_REFINED 256             /* cells a side of refine's input */
+#define MAX_CELLS 512               /* cells a side of any other lattice */
+#define MAX_H 5
+#define MAX_POINTS 65535
+#define MAX_STEP 8192
+#define MAX_NODES 8193              /* columns or rows of a raster */
+#define FINEST_SHIFT 4              /* U is 1 << shift: 16 at the finest level, 512 at most */
+#define WIDEST_SHIFT 9
 
-#define MOST_COARSE_CELLS 16
-#define MOST_REFINE_CELLS 256
-#define MOST_CELLS 512
-#define MOST_LEVEL 5
-#define MOST_POINTS 65535
-#define MOST_STEP 8192
-#define MOST_NODES 8193
-#define FINEST_UNIT 16
-#define DEFAULT_STEP 16
+#define LATTICE_HEADER_BYTES 6
+#define LATTICE_CLOSING_BYTES 4
+#define POINT_HEADER_BYTES 8
+#define POINT_BYTES 14
 
 #define PROGRAM_BYTES 7008
+#define PROGRAM_POINTS ((PROGRAM_BYTES - POINT_HEADER_BYTES) / POINT_BYTES)
 #define PROGRAM_CELLS 16
-#define PROGRAM_POINTS ((PROGRAM_BYTES - 8) / 14)
 #define PROGRAM_PLACES ((PROGRAM_CELLS + 3) * (PROGRAM_CELLS + 3))
-#define PROGRAM_OUTPUT (10 + (PROGRAM_CELLS + 3) * (4 + 8 * (PROGRAM_CELLS + 3)))
+#define PROGRAM_OUTPUT 2974
 
-/* The numbers of the table "What the caller is told". */
-enum {
-    ACCEPTED = 0,
-    CELLS = 1,
-    LEVEL_OR_UNIT = 2,
-    LISTS = 3,
-    TOO_SHORT = 4,
-    OUTSIDE = 5,
-    OUT_OF_RANGE = 6,
-    IN_A_LEVEL = 7,
-    STEP_OR_NODES = 8,
-    INCOMPLETE = 9,
-    WRONG_MARK = 10,
-    FIELD = 11,
-    AFTER_THE_END = 12
-};
+/* A refusal's number and place; number 0 for none. */
+typedef struct { uint64_t number, place; } verdict;
 
-static ref_cells cells_refused(uint64_t number, uint64_t place)
+static int in_range(int64_t v)
 {
-    ref_cells answer = { number, place, 0, 0 };
-    return answer;
-}
-
-static ref_height height_refused(uint64_t number, uint64_t place)
-{
-    ref_height answer = { number, place, 0 };
-    return answer;
-}
-
-static ref_count count_refused(uint64_t number, uint64_t place)
-{
-    ref_count answer = { number, place, 0 };
-    return answer;
-}
-
-static ref_header header_refused(uint64_t number, uint64_t place)
-{
-    ref_header answer = { number, place, 0, 0, 0, 0 };
-    return answer;
-}
-
-/* ---- Grid, heights and rounding ---- */
-
-static int in_range(int64_t value)
-{
-    return value >= -LIMIT && value <= LIMIT;
-}
-
-/* Index of the first value out of range, or count if there is none. */
-static size_t first_out_of_range(const int64_t *values, size_t count)
-{
-    size_t at;
-    for (at = 0; at < count; at++)
-        if (!in_range(values[at]))
-            return at;
-    return count;
+    return v >= -BOUND && v <= BOUND;
 }
 
 static int cells_allowed(size_t m, size_t n, size_t most)
@@ -97,367 +57,379 @@ static int cells_allowed(size_t m, size_t n, size_t most)
     return m >= 1 && m <= most && n >= 1 && n <= most;
 }
 
-static int unit_allowed(size_t unit)
-{
-    return unit == 16 || unit == 32 || unit == 64 || unit == 128 || unit == 256 || unit == 512;
-}
-
-static size_t places(size_t m, size_t n)
+/* Control values of a lattice of m by n cells. */
+static size_t lattice_places(size_t m, size_t n)
 {
     return (m + 3) * (n + 3);
 }
 
-/* The nearest whole number to v/d, an exact half going to the larger; d is at least 1. */
-static inline int64_t near_of(int64_t v, int64_t d)
+/* "Every index is the first offender's": of the control values; places if there is none. */
+static size_t first_out_of_range(const int64_t *lattice, size_t places)
 {
-    int64_t quotient = v / d;
-    int64_t rest = v % d;
-    if (rest < 0) {                     /* C divides toward zero: go down to the floor */
-        rest += d;
-        quotient -= 1;
-    }
-    if (rest >= d - rest)
-        quotient += 1;
-    return quotient;
+    size_t i = 0;
+    while (i < places && in_range(lattice[i]))
+        i++;
+    return i;
 }
+
+/* The shift that stands for a listed U, 0 for one that is not listed. */
+static unsigned shift_of_unit(size_t unit)
+{
+    for (unsigned shift = FINEST_SHIFT; shift <= WIDEST_SHIFT; shift++)
+        if (unit == (size_t)1 << shift)
+            return shift;
+    return 0;
+}
+
+/* ---- Rounding ---- */
 
 int64_t ref_near(int64_t v, int64_t d)
 {
-    return d >= 1 ? near_of(v, d) : 0;
+    if (d < 1)
+        return 0;
+    int64_t quotient = v / d, rest = v % d;
+    if (rest < 0) {                 /* C divides toward zero; here the floor is wanted */
+        rest += d;
+        quotient--;
+    }
+    return rest >= d - rest ? quotient + 1 : quotient;   /* an exact half goes to the larger */
+}
+
+/*
+ * near(v / 6U^3) of a basis sum. Numerators are not negative and add up to 6U^3,
+ * so |v| <= BOUND * 6U^3. Adding BOUND * 6U^3 before and taking BOUND off after
+ * keeps the dividend from being negative, and then unsigned division is the floor;
+ * at U = 512 it stays below 2 * 4e9 * 8.06e8 + 4.1e8 < 6.5e18 < 2^63.
+ */
+static int64_t near_of_basis_sum(int64_t v, unsigned shift)
+{
+    int64_t cube = INT64_C(1) << 3 * shift;
+    uint64_t raised = (uint64_t)(v + 6 * cube * BOUND + 3 * cube);
+    return (int64_t)((raised >> 3 * shift) / 6) - BOUND;
+}
+
+/* near(v / 64) of a refinement sum, |v| <= 64 * BOUND, in the same way. */
+static int64_t near_of_refinement_sum(int64_t v)
+{
+    return (int64_t)((uint64_t)(v + 64 * BOUND + 32) / 64) - BOUND;
+}
+
+/* near of a finite f64's exact value, |q| < 2^52: a fraction is exact in f64. */
+static int64_t near_of_f64(double q)
+{
+    int64_t whole = (int64_t)q;     /* toward zero */
+    double fraction = q - (double)whole;
+    return whole + (fraction >= 0.5) - (fraction < -0.5);
 }
 
 /* ---- Basis and height ---- */
 
-/* Where a position lies along one axis: its cell, and the four numerators over 6U^3 at its offset. */
-typedef struct {
-    size_t cell;
-    int64_t numerator[4];
-} axis_place;
+/* The four numerators over 6U^3 at offset a of a cell. */
+static void basis_numerators(int64_t unit, int64_t a, int64_t numerator[4])
+{
+    int64_t back = unit - a;
+    int64_t cube = unit * unit * unit;
+    numerator[0] = back * back * back;
+    numerator[1] = 3 * a * a * a - 6 * a * a * unit + 4 * cube;
+    numerator[2] = -3 * a * a * a + 3 * a * a * unit + 3 * a * unit * unit + cube;
+    numerator[3] = a * a * a;
+}
 
-static inline axis_place place_on_axis(size_t position, size_t cells, size_t unit)
+/*
+ * Where a position lies on one axis. Cell c uses control indices c-1 to c+2,
+ * which are stored from place c on.
+ */
+typedef struct { size_t cell; int64_t numerator[4]; } axis_place;
+
+static axis_place place_on_axis(size_t position, size_t cells, unsigned shift)
 {
     axis_place place;
-    int64_t a, u = (int64_t)unit;
-
-    place.cell = position / unit;
-    if (place.cell == cells)            /* the far edge belongs to the last cell, a = U */
-        place.cell = cells - 1;
-    a = (int64_t)(position - place.cell * unit);
-
-    place.numerator[0] = (u - a) * (u - a) * (u - a);
-    place.numerator[1] = 3 * a * a * a - 6 * a * a * u + 4 * u * u * u;
-    place.numerator[2] = -3 * a * a * a + 3 * a * a * u + 3 * a * u * u + u * u * u;
-    place.numerator[3] = a * a * a;
+    place.cell = position >> shift;
+    if (place.cell == cells)        /* the far edge belongs to the last cell, with a = U */
+        place.cell--;
+    basis_numerators(INT64_C(1) << shift, (int64_t)(position - (place.cell << shift)),
+                     place.numerator);
     return place;
 }
 
-/* 6U^3 */
-static inline int64_t divisor_of(size_t unit)
+static int64_t sum_of_four(const int64_t numerator[4], const int64_t *value)
 {
-    int64_t u = (int64_t)unit;
-    return 6 * u * u * u;
+    return numerator[0] * value[0] + numerator[1] * value[1]
+         + numerator[2] * value[2] + numerator[3] * value[3];
 }
 
-/* The height of a lattice with row_length control values a row: rows first, then across them. */
-static inline int64_t height_of(const int64_t *lattice, size_t row_length,
-                                const axis_place *px, const axis_place *py, int64_t divisor)
+/* The height in its two steps, of a lattice with width control values a row. */
+static int64_t height_in_cell(const int64_t *lattice, size_t width, unsigned shift,
+                              const axis_place *x, const axis_place *y)
 {
-    /* Control index c - 1 is stored at c. */
-    const int64_t *row = lattice + py->cell * row_length + px->cell;
-    int64_t y_sum = 0;
-    int k, l;
-
-    for (l = 0; l < 4; l++) {
-        int64_t x_sum = 0;
-        for (k = 0; k < 4; k++)
-            x_sum += px->numerator[k] * row[k];
-        y_sum += py->numerator[l] * near_of(x_sum, divisor);
-        row += row_length;
-    }
-    return near_of(y_sum, divisor);
+    const int64_t *corner = lattice + y->cell * width + x->cell;
+    int64_t row[4];
+    for (size_t l = 0; l < 4; l++)
+        row[l] = near_of_basis_sum(sum_of_four(x->numerator, corner + l * width), shift);
+    return near_of_basis_sum(sum_of_four(y->numerator, row), shift);
 }
 
 ref_height ref_height_at(size_t m, size_t n, size_t unit,
                          const int64_t *lattice, size_t lattice_len, size_t x, size_t y)
 {
-    ref_height answer = { ACCEPTED, 0, 0 };
-    axis_place px, py;
-    size_t offender;
-
-    if (!cells_allowed(m, n, MOST_CELLS))
-        return height_refused(CELLS, 0);
-    if (!unit_allowed(unit))
-        return height_refused(LEVEL_OR_UNIT, 0);
-    if (lattice_len < places(m, n))
-        return height_refused(TOO_SHORT, 0);
-    offender = first_out_of_range(lattice, places(m, n));
-    if (offender < places(m, n))
-        return height_refused(OUT_OF_RANGE, offender);
-    if (x > m * unit || y > n * unit)
-        return height_refused(OUTSIDE, 0);
-
-    px = place_on_axis(x, m, unit);
-    py = place_on_axis(y, n, unit);
-    answer.height = height_of(lattice, m + 3, &px, &py, divisor_of(unit));
-    return answer;
-}
-
-/* ---- Fitting one level ---- */
-
-/*
- * The quotient becomes near of its exact value. Returns 0 if the quotient is no number or
- * rounds out of range.
- */
-static int near_of_quotient(double quotient, int64_t *value)
-{
-    int64_t down;
-
-    if (!(quotient > -(double)LIMIT - 1 && quotient < (double)LIMIT + 1))
-        return 0;                       /* NaN comes here too */
-    down = (int64_t)quotient;
-    if ((double)down > quotient)        /* the conversion cuts toward zero: go down to the floor */
-        down -= 1;
-    if (quotient - (double)down >= 0.5)
-        down += 1;
-    *value = down;
-    return in_range(down);
-}
-
-/*
- * Fits a level lattice of m by n cells to the residuals. The two running sums of the control
- * value stored at s are sums[2s] and sums[2s + 1]. Returns 0 if a quotient is refused.
- */
-static int fit_level(size_t m, size_t n, size_t unit, const uint16_t *x, const uint16_t *y,
-                     const int64_t *residual, size_t points, double *sums, int64_t *level)
-{
-    const size_t row_length = m + 3;
-    const size_t count = places(m, n);
-    const double divisor = (double)divisor_of(unit);
-    size_t point, at;
-    int k, l;
-
-    for (at = 0; at < 2 * count; at++)
-        sums[at] = 0;
-
-    for (point = 0; point < points; point++) {
-        const axis_place px = place_on_axis(x[point], m, unit);
-        const axis_place py = place_on_axis(y[point], n, unit);
-        const double z = (double)residual[point];
-        double b[4], c[4], w[4][4], s = 0;
-
-        for (k = 0; k < 4; k++) {
-            b[k] = (double)px.numerator[k] / divisor;
-            c[k] = (double)py.numerator[k] / divisor;
-        }
-        for (k = 0; k < 4; k++) {
-            for (l = 0; l < 4; l++) {
-                w[k][l] = b[k] * c[l];
-                s += w[k][l] * w[k][l];
-            }
-        }
-        for (l = 0; l < 4; l++) {
-            double *sum = sums + 2 * ((py.cell + (size_t)l) * row_length + px.cell);
-            for (k = 0; k < 4; k++) {
-                const double square = w[k][l] * w[k][l];
-                sum[2 * k] += square * ((w[k][l] * z) / s);
-                sum[2 * k + 1] += square;
-            }
-        }
-    }
-
-    for (at = 0; at < count; at++) {
-        level[at] = 0;                  /* untouched counts as 0 */
-        if (sums[2 * at + 1] > 0 && !near_of_quotient(sums[2 * at] / sums[2 * at + 1], &level[at]))
-            return 0;
-    }
-    return 1;
-}
-
-/* Takes from each residual the height of the level lattice there. Returns 0 if one leaves the range. */
-static int take_heights(size_t m, size_t n, size_t unit, const int64_t *level,
-                        const uint16_t *x, const uint16_t *y, int64_t *residual, size_t points)
-{
-    const int64_t divisor = divisor_of(unit);
-    size_t point;
-
-    for (point = 0; point < points; point++) {
-        const axis_place px = place_on_axis(x[point], m, unit);
-        const axis_place py = place_on_axis(y[point], n, unit);
-        residual[point] -= height_of(level, m + 3, &px, &py, divisor);
-        if (!in_range(residual[point]))
-            return 0;
-    }
-    return 1;
+    unsigned shift = shift_of_unit(unit);
+    if (!cells_allowed(m, n, MAX_CELLS))
+        return (ref_height){ .number = 1 };
+    if (shift == 0)
+        return (ref_height){ .number = 2 };
+    size_t places = lattice_places(m, n);
+    if (lattice_len < places)
+        return (ref_height){ .number = 4 };
+    size_t bad = first_out_of_range(lattice, places);
+    if (bad < places)
+        return (ref_height){ .number = 6, .place = bad };
+    if (x > m << shift || y > n << shift)
+        return (ref_height){ .number = 5 };
+    axis_place on_x = place_on_axis(x, m, shift), on_y = place_on_axis(y, n, shift);
+    return (ref_height){ .height = height_in_cell(lattice, m + 3, shift, &on_x, &on_y) };
 }
 
 /* ---- Refinement ---- */
 
 /*
- * Stored places are index + 1. So an even new place s is an odd new index, and weighs the old
- * places s/2 and s/2 + 1 by (4, 4); an odd new place s is an even new index, and weighs the old
- * places (s-1)/2 to (s-1)/2 + 2 by (1, 6, 1). No neighbour is missing at an edge.
+ * One new row from three old rows and their y weights. In storage, where index -1
+ * is place 0, new place 2t weighs old t, t+1 by (4, 4) and new place 2t+1 weighs
+ * old t, t+1, t+2 by (1, 6, 1). The double sum is exact, so its order is free:
+ * first along y, once for each old column, then along x.
  */
-static void refine_lattice(size_t m, size_t n, const int64_t *old, int64_t *output)
+static void refine_row(size_t m, const int64_t *const row[3], const int64_t weight[3],
+                       int64_t *restrict output)
 {
-    const size_t old_length = m + 3, new_length = 2 * m + 3;
-    int64_t weighed[MOST_REFINE_CELLS + 3];     /* old columns, weighed along y for one new row */
-    size_t row, column;
+    const int64_t *r0 = row[0], *r1 = row[1], *r2 = row[2];
+    int64_t w0 = weight[0], w1 = weight[1], w2 = weight[2];
+    int64_t left = w0 * r0[0] + w1 * r1[0] + w2 * r2[0];
+    int64_t middle = w0 * r0[1] + w1 * r1[1] + w2 * r2[1];
+    for (size_t t = 0; t <= m; t++) {
+        int64_t right = w0 * r0[t + 2] + w1 * r1[t + 2] + w2 * r2[t + 2];
+        output[2 * t] = near_of_refinement_sum(4 * left + 4 * middle);
+        output[2 * t + 1] = near_of_refinement_sum(left + 6 * middle + right);
+        left = middle;
+        middle = right;
+    }
+    output[2 * m + 2] = near_of_refinement_sum(4 * left + 4 * middle);
+}
 
-    for (row = 0; row < 2 * n + 3; row++) {
-        const int64_t *r0 = old + (row / 2) * old_length;
-        const int64_t *r1 = r0 + old_length;
-        int64_t *new_row = output + row * new_length;
-
-        if (row % 2 == 0) {
-            for (column = 0; column < old_length; column++)
-                weighed[column] = 4 * r0[column] + 4 * r1[column];
-        } else {
-            const int64_t *r2 = r1 + old_length;
-            for (column = 0; column < old_length; column++)
-                weighed[column] = r0[column] + 6 * r1[column] + r2[column];
-        }
-
-        for (column = 0; column < new_length; column++) {
-            const int64_t *c = weighed + column / 2;
-            if (column % 2 == 0)
-                new_row[column] = near_of(4 * c[0] + 4 * c[1], 64);
-            else
-                new_row[column] = near_of(c[0] + 6 * c[1] + c[2], 64);
-        }
+/* The rows go by the same rule as the places in a row. */
+static void refine_lattice(size_t m, size_t n, const int64_t *lattice, int64_t *restrict output)
+{
+    static const int64_t weight[2][3] = { { 4, 4, 0 }, { 1, 6, 1 } };
+    size_t width = m + 3;
+    for (size_t j = 0; j < 2 * n + 3; j++) {
+        const int64_t *first = lattice + j / 2 * width;
+        const int64_t *const row[3] = { first, first + width, first + (1 + j % 2) * width };
+        refine_row(m, row, weight[j % 2], output + j * (2 * m + 3));
     }
 }
 
 ref_cells ref_refine(size_t m, size_t n, const int64_t *lattice, size_t lattice_len,
                      int64_t *output, size_t output_len)
 {
-    ref_cells answer = { ACCEPTED, 0, 0, 0 };
-    size_t offender;
-
-    if (!cells_allowed(m, n, MOST_REFINE_CELLS))
-        return cells_refused(CELLS, 0);
-    if (lattice_len < places(m, n) || output_len < places(2 * m, 2 * n))
-        return cells_refused(TOO_SHORT, 0);
-    offender = first_out_of_range(lattice, places(m, n));
-    if (offender < places(m, n))
-        return cells_refused(OUT_OF_RANGE, offender);
-
+    if (!cells_allowed(m, n, MAX_REFINED))
+        return (ref_cells){ .number = 1 };
+    size_t places = lattice_places(m, n);
+    if (lattice_len < places || output_len < lattice_places(2 * m, 2 * n))
+        return (ref_cells){ .number = 4 };
+    size_t bad = first_out_of_range(lattice, places);
+    if (bad < places)
+        return (ref_cells){ .number = 6, .place = bad };
     refine_lattice(m, n, lattice, output);
-    answer.m = 2 * m;
-    answer.n = 2 * n;
-    return answer;
+    return (ref_cells){ .m = 2 * m, .n = 2 * n };
+}
+
+/* ---- Point lists, for the fit and the point writer ---- */
+
+/* Refusals 1, 2 and 3; 0 for none. */
+static uint64_t check_lists(size_t m0, size_t n0, size_t h, size_t x_len, size_t y_len, size_t z_len)
+{
+    if (!cells_allowed(m0, n0, MAX_COARSEST))
+        return 1;
+    if (h > MAX_H)
+        return 2;
+    if (x_len != y_len || x_len != z_len || x_len > MAX_POINTS)
+        return 3;
+    return 0;
+}
+
+/* The far edge of a fit's grid on the axis with this many coarsest cells. */
+static size_t far_edge(size_t coarsest, size_t h)
+{
+    return coarsest << (FINEST_SHIFT + h);
+}
+
+/* "Points go in list order, 5 before 6 in a point." */
+static verdict check_points(size_t m0, size_t n0, size_t h, size_t points,
+                            const uint16_t *x, const uint16_t *y, const int64_t *z)
+{
+    size_t x_edge = far_edge(m0, h), y_edge = far_edge(n0, h);
+    for (size_t i = 0; i < points; i++) {
+        if (x[i] > x_edge || y[i] > y_edge)
+            return (verdict){ 5, i };
+        if (!in_range(z[i]))
+            return (verdict){ 6, i };
+    }
+    return (verdict){ 0, 0 };
 }
 
 /* ---- The whole fit ---- */
 
-/*
- * Levels 0 to h, in scratch alone until all are accepted: whole has three lattices of K places
- * and p residuals. Returns h + 1, or the level that is refused. Level lattices are also copied
- * to kept, unless that is null.
- */
-static size_t fit_levels(size_t m0, size_t n0, size_t h, const uint16_t *x, const uint16_t *y,
-                         const int64_t *z, size_t points, int64_t *lattice, int64_t *residual,
-                         int64_t *whole, double *floats, int64_t *const *kept)
+/* What a fit works on: the caller's points and the two scratch slices in their parts. */
+typedef struct {
+    size_t m0, n0, h, points;
+    const uint16_t *x, *y;
+    int64_t *level, *running, *spare, *residual;
+    double *first, *second;         /* the two running sums of every control value */
+} fit_work;
+
+/* Adds one point, of value z, to the sums of its sixteen control values. */
+static void add_point(double *restrict first, double *restrict second, size_t width, unsigned shift,
+                      const axis_place *x, const axis_place *y, double z)
 {
-    const size_t finest = places(m0 << h, n0 << h);
-    int64_t *level = whole;
-    int64_t *running = whole + finest;
-    int64_t *refined = whole + 2 * finest;
-    int64_t *left = whole + 3 * finest;         /* the residuals so far */
-    size_t k, at;
-
-    for (at = 0; at < points; at++)
-        left[at] = z[at];
-
-    for (k = 0; k <= h; k++) {
-        const size_t m = m0 << k, n = n0 << k;
-        const size_t unit = (size_t)FINEST_UNIT << (h - k);
-        const size_t count = places(m, n);
-
-        if (!fit_level(m, n, unit, x, y, left, points, floats, level))
-            return k;
-        if (!take_heights(m, n, unit, level, x, y, left, points))
-            return k;
-        if (k == 0) {
-            for (at = 0; at < count; at++)
-                running[at] = level[at];
-        } else {
-            int64_t *swapped = running;
-            refine_lattice(m / 2, n / 2, running, refined);
-            for (at = 0; at < count; at++) {
-                refined[at] += level[at];
-                if (!in_range(refined[at]))
-                    return k;
-            }
-            running = refined;
-            refined = swapped;
+    double divisor = (double)(INT64_C(6) << 3 * shift);
+    double b[4], c[4], w[4][4], s = 0.0;
+    for (size_t k = 0; k < 4; k++) {
+        b[k] = (double)x->numerator[k] / divisor;
+        c[k] = (double)y->numerator[k] / divisor;
+    }
+    for (size_t k = 0; k < 4; k++)
+        for (size_t l = 0; l < 4; l++) {
+            w[l][k] = b[k] * c[l];  /* kept by rows, as the lattice is */
+            s += w[l][k] * w[l][k];
         }
-        if (kept != NULL)
-            for (at = 0; at < count; at++)
-                kept[k][at] = level[at];
+    for (size_t l = 0; l < 4; l++) {
+        size_t row = (y->cell + l) * width + x->cell;
+        for (size_t k = 0; k < 4; k++) {
+            double square = w[l][k] * w[l][k];
+            first[row + k] += square * ((w[l][k] * z) / s);
+            second[row + k] += square;
+        }
     }
-
-    for (at = 0; at < finest; at++)
-        lattice[at] = running[at];
-    for (at = 0; at < points; at++)
-        residual[at] = left[at];
-    return h + 1;
 }
 
-/* The first refusal 5 or 6 of a point list as an answer; 5 before 6 in a point. */
-static ref_count check_points(size_t m0, size_t n0, size_t h, const uint16_t *x, const uint16_t *y,
-                              const int64_t *z, size_t points)
+/* The running sums of one level, from 0, points in list order. */
+static void gather_sums(const fit_work *f, size_t m, size_t n, unsigned shift)
 {
-    const size_t far_x = FINEST_UNIT * (m0 << h), far_y = FINEST_UNIT * (n0 << h);
-    size_t point;
-
-    for (point = 0; point < points; point++) {
-        if (x[point] > far_x || y[point] > far_y)
-            return count_refused(OUTSIDE, point);
-        if (!in_range(z[point]))
-            return count_refused(OUT_OF_RANGE, point);
+    size_t places = lattice_places(m, n);
+    for (size_t i = 0; i < places; i++) {
+        f->first[i] = 0.0;
+        f->second[i] = 0.0;
     }
-    return count_refused(ACCEPTED, 0);
+    for (size_t i = 0; i < f->points; i++) {
+        axis_place x = place_on_axis(f->x[i], m, shift), y = place_on_axis(f->y[i], n, shift);
+        add_point(f->first, f->second, m + 3, shift, &x, &y, (double)f->residual[i]);
+    }
 }
 
-/* kept is null for the fit itself. */
-static ref_cells fit(size_t m0, size_t n0, size_t h,
-                     const uint16_t *x, size_t x_len, const uint16_t *y, size_t y_len,
-                     const int64_t *z, size_t z_len,
-                     int64_t *lattice, size_t lattice_len, int64_t *residual, size_t residual_len,
-                     int64_t *whole, size_t whole_len, double *floats, size_t floats_len,
-                     int64_t *const *kept)
+/*
+ * The level lattice from the sums; 0 if a quotient is refused. A half goes to the
+ * larger, so exactly the quotients from -BOUND - 1/2 to below BOUND + 1/2 round in
+ * range; both ends are exact in f64, and no NaN passes.
+ */
+static int round_quotients(const fit_work *f, size_t places)
 {
-    ref_cells answer = { ACCEPTED, 0, 0, 0 };
-    ref_count checked;
-    size_t points, count, reached, at;
+    for (size_t i = 0; i < places; i++) {
+        f->level[i] = 0;            /* untouched */
+        if (f->second[i] > 0.0) {
+            double quotient = f->first[i] / f->second[i];
+            if (!(quotient >= -4000000000.5 && quotient < 4000000000.5))
+                return 0;
+            f->level[i] = near_of_f64(quotient);
+        }
+    }
+    return 1;
+}
 
-    if (!cells_allowed(m0, n0, MOST_COARSE_CELLS))
-        return cells_refused(CELLS, 0);
-    if (h > MOST_LEVEL)
-        return cells_refused(LEVEL_OR_UNIT, 0);
-    if (x_len != y_len || x_len != z_len || x_len > MOST_POINTS)
-        return cells_refused(LISTS, 0);
-    points = x_len;
-    count = places(m0 << h, n0 << h);
-    if (lattice_len < count || residual_len < points
-        || whole_len < 3 * count + points || floats_len < 2 * count)
-        return cells_refused(TOO_SHORT, 0);
-    checked = check_points(m0, n0, h, x, y, z, points);
-    if (checked.number != ACCEPTED)
-        return cells_refused(checked.number, checked.place);
+/* Takes from each residual the level's height there; 0 if one leaves the range. */
+static int lower_residuals(const fit_work *f, size_t m, size_t n, unsigned shift)
+{
+    for (size_t i = 0; i < f->points; i++) {
+        axis_place x = place_on_axis(f->x[i], m, shift), y = place_on_axis(f->y[i], n, shift);
+        f->residual[i] -= height_in_cell(f->level, m + 3, shift, &x, &y);
+        if (!in_range(f->residual[i]))
+            return 0;
+    }
+    return 1;
+}
 
-    reached = fit_levels(m0, n0, h, x, y, z, points, lattice, residual, whole, floats, kept);
+/* Adds the level lattice to the running one; 0 if a sum leaves the range. */
+static int add_level(int64_t *restrict running, const int64_t *restrict level, size_t places)
+{
+    int good = 1;
+    for (size_t i = 0; i < places; i++) {
+        running[i] += level[i];
+        good &= in_range(running[i]);
+    }
+    return good;
+}
 
-    for (at = 0; at < 3 * count + points; at++)
-        whole[at] = 0;
-    for (at = 0; at < 2 * count; at++)
-        floats[at] = 0;
+/* Level k of the fit; 0 for refusal 7. kept, if any, receives the level lattice. */
+static int run_level(fit_work *f, size_t k, int64_t *kept)
+{
+    size_t m = f->m0 << k, n = f->n0 << k, places = lattice_places(m, n);
+    unsigned shift = FINEST_SHIFT + (unsigned)(f->h - k);
+    gather_sums(f, m, n, shift);
+    if (!round_quotients(f, places))
+        return 0;
+    if (kept != NULL)
+        memcpy(kept, f->level, places * sizeof *kept);
+    if (!lower_residuals(f, m, n, shift))
+        return 0;
+    int64_t *old = f->running;
+    if (k == 0) {                   /* no running lattice yet: the level lattice becomes it */
+        f->running = f->level;
+        f->level = old;
+        return 1;
+    }
+    refine_lattice(m / 2, n / 2, old, f->spare);
+    f->running = f->spare;
+    f->spare = old;
+    return add_level(f->running, f->level, places);
+}
 
-    if (reached <= h)
-        return cells_refused(IN_A_LEVEL, reached);
-    answer.m = m0 << h;
-    answer.n = n0 << h;
-    return answer;
+/*
+ * Both fits; ref_fit lends no levels. All work is done in the scratch, as refusal 7
+ * leaves lattice and residuals as they were.
+ */
+ref_cells ref_fit_levels(size_t m0, size_t n0, size_t h,
+                         const uint16_t *x, size_t x_len, const uint16_t *y, size_t y_len,
+                         const int64_t *z, size_t z_len,
+                         int64_t *lattice, size_t lattice_len, int64_t *residual, size_t residual_len,
+                         int64_t *whole, size_t whole_len, double *floats, size_t floats_len,
+                         int64_t *const *levels)
+{
+    uint64_t number = check_lists(m0, n0, h, x_len, y_len, z_len);
+    if (number != 0)
+        return (ref_cells){ .number = number };
+    size_t points = x_len, places = ref_level_places(m0, n0, h);
+    if (lattice_len < places || residual_len < points
+        || whole_len < 3 * places + points || floats_len < 2 * places)
+        return (ref_cells){ .number = 4 };
+    verdict bad = check_points(m0, n0, h, points, x, y, z);
+    if (bad.number != 0)
+        return (ref_cells){ .number = bad.number, .place = bad.place };
+
+    fit_work f = { m0, n0, h, points, x, y,
+                   whole, whole + places, whole + 2 * places, whole + 3 * places,
+                   floats, floats + places };
+    for (size_t i = 0; i < points; i++)
+        f.residual[i] = z[i];
+    size_t k = 0;
+    while (k <= h && run_level(&f, k, levels == NULL ? NULL : levels[k]))
+        k++;
+    if (k > h) {
+        memcpy(lattice, f.running, places * sizeof *lattice);
+        for (size_t i = 0; i < points; i++)
+            residual[i] = f.residual[i];
+    }
+    memset(whole, 0, (3 * places + points) * sizeof *whole);
+    memset(floats, 0, 2 * places * sizeof *floats);     /* all bits zero is +0 */
+    if (k <= h)
+        return (ref_cells){ .number = 7, .place = k };
+    return (ref_cells){ .m = m0 << h, .n = n0 << h };
 }
 
 ref_cells ref_fit(size_t m0, size_t n0, size_t h,
@@ -466,405 +438,396 @@ ref_cells ref_fit(size_t m0, size_t n0, size_t h,
                   int64_t *lattice, size_t lattice_len, int64_t *residual, size_t residual_len,
                   int64_t *whole, size_t whole_len, double *floats, size_t floats_len)
 {
-    return fit(m0, n0, h, x, x_len, y, y_len, z, z_len, lattice, lattice_len,
-               residual, residual_len, whole, whole_len, floats, floats_len, NULL);
+    return ref_fit_levels(m0, n0, h, x, x_len, y, y_len, z, z_len, lattice, lattice_len,
+                          residual, residual_len, whole, whole_len, floats, floats_len, NULL);
 }
 
 /* ---- Rasters ---- */
+
+/* Nodes on one axis, from start on, before the first outside; there may be more than wanted. */
+static size_t nodes_inside(size_t start, size_t step, size_t edge)
+{
+    return start > edge ? 0 : (edge - start) / step + 1;
+}
+
+/* The first node outside, row by row; columns * rows if there is none. */
+static size_t first_node_outside(size_t across, size_t down, size_t columns, size_t rows)
+{
+    if (down > 0 && across < columns)   /* already in the first row */
+        return across;
+    return (down < rows ? down : rows) * columns;
+}
+
+/* Each node's height by itself, row by row. */
+static void write_raster(size_t m, size_t n, unsigned shift, const int64_t *lattice,
+                         size_t x0, size_t y0, size_t step, size_t columns, size_t rows,
+                         int64_t *restrict output)
+{
+    for (size_t r = 0; r < rows; r++) {
+        axis_place y = place_on_axis(y0 + r * step, n, shift);
+        for (size_t c = 0; c < columns; c++) {
+            axis_place x = place_on_axis(x0 + c * step, m, shift);
+            *output++ = height_in_cell(lattice, m + 3, shift, &x, &y);
+        }
+    }
+}
 
 ref_count ref_raster(size_t m, size_t n, size_t unit, const int64_t *lattice, size_t lattice_len,
                      size_t x0, size_t y0, size_t step, size_t columns, size_t rows,
                      int64_t *output, size_t output_len)
 {
-    ref_count answer = { ACCEPTED, 0, 0 };
-    size_t offender, row, column;
-    int64_t divisor;
-
-    if (!cells_allowed(m, n, MOST_CELLS))
-        return count_refused(CELLS, 0);
-    if (!unit_allowed(unit))
-        return count_refused(LEVEL_OR_UNIT, 0);
-    if (step > MOST_STEP || columns > MOST_NODES || rows > MOST_NODES)
-        return count_refused(STEP_OR_NODES, 0);
-    if (lattice_len < places(m, n) || output_len < columns * rows)
-        return count_refused(TOO_SHORT, 0);
-    offender = first_out_of_range(lattice, places(m, n));
-    if (offender < places(m, n))
-        return count_refused(OUT_OF_RANGE, offender);
-    if (columns == 0 || rows == 0)
-        return answer;
+    unsigned shift = shift_of_unit(unit);
+    if (!cells_allowed(m, n, MAX_CELLS))
+        return (ref_count){ .number = 1 };
+    if (shift == 0)
+        return (ref_count){ .number = 2 };
+    if (step > MAX_STEP || columns > MAX_NODES || rows > MAX_NODES)
+        return (ref_count){ .number = 8 };
+    size_t places = lattice_places(m, n), nodes = columns * rows;
+    if (lattice_len < places || output_len < nodes)
+        return (ref_count){ .number = 4 };
+    size_t bad = first_out_of_range(lattice, places);
+    if (bad < places)
+        return (ref_count){ .number = 6, .place = bad };
+    if (nodes == 0)                 /* no node is outside, wherever x0 and y0 are */
+        return (ref_count){ .count = 0 };
     if (step == 0)
-        step = DEFAULT_STEP;
+        step = 16;
+    bad = first_node_outside(nodes_inside(x0, step, m << shift), nodes_inside(y0, step, n << shift),
+                             columns, rows);
+    if (bad < nodes)
+        return (ref_count){ .number = 5, .place = bad };
+    write_raster(m, n, shift, lattice, x0, y0, step, columns, rows, output);
+    return (ref_count){ .count = nodes };
+}
 
-    /* The first node outside, row by row; (x0, y0) first, so that the sums below stay small. */
-    if (x0 > m * unit || y0 > n * unit)
-        return count_refused(OUTSIDE, 0);
-    for (column = 0; column < columns; column++)
-        if (x0 + step * column > m * unit)
-            return count_refused(OUTSIDE, column);
-    for (row = 0; row < rows; row++)
-        if (y0 + step * row > n * unit)
-            return count_refused(OUTSIDE, row * columns);
+/* ---- Files: little-endian fields and marks ---- */
 
-    divisor = divisor_of(unit);
-    for (row = 0; row < rows; row++) {
-        const axis_place py = place_on_axis(y0 + step * row, n, unit);
-        for (column = 0; column < columns; column++) {
-            const axis_place px = place_on_axis(x0 + step * column, m, unit);
-            output[row * columns + column] = height_of(lattice, m + 3, &px, &py, divisor);
-        }
+static uint16_t get_u16(const uint8_t *at)
+{
+    return (uint16_t)(at[0] | at[1] << 8);
+}
+
+static int64_t get_i64(const uint8_t *at)
+{
+    uint64_t bits = (uint64_t)at[0] | (uint64_t)at[1] << 8 | (uint64_t)at[2] << 16
+                  | (uint64_t)at[3] << 24 | (uint64_t)at[4] << 32 | (uint64_t)at[5] << 40
+                  | (uint64_t)at[6] << 48 | (uint64_t)at[7] << 56;
+    int64_t value;
+    memcpy(&value, &bits, sizeof value);    /* int64_t is two's complement */
+    return value;
+}
+
+static void put_u16(uint8_t *at, size_t v)
+{
+    at[0] = (uint8_t)v;
+    at[1] = (uint8_t)(v >> 8);
+}
+
+static void put_i64(uint8_t *at, int64_t v)
+{
+    uint64_t bits = (uint64_t)v;    /* modulo 2^64, which is two's complement */
+    uint8_t bytes[8];
+    for (unsigned b = 0; b < 8; b++)
+        bytes[b] = (uint8_t)(bits >> 8 * b);
+    memcpy(at, bytes, sizeof bytes);
+}
+
+static void put_mark(uint8_t *at, char first, char second)
+{
+    at[0] = (uint8_t)first;
+    at[1] = (uint8_t)second;
+}
+
+/*
+ * Every record begins so: 9 if not all its bytes are there, then 10 if its mark is
+ * another. at is never past the end of the file.
+ */
+static verdict open_record(const uint8_t *file, size_t file_len, size_t at, size_t bytes,
+                           char first, char second)
+{
+    if (file_len - at < bytes)
+        return (verdict){ 9, at };
+    if (file[at] != (uint8_t)first || file[at + 1] != (uint8_t)second)
+        return (verdict){ 10, at };
+    return (verdict){ 0, 0 };
+}
+
+/* ---- Lattice files ---- */
+
+static size_t lattice_row_bytes(size_t m)
+{
+    return 4 + 8 * (m + 3);
+}
+
+static size_t lattice_file_bytes(size_t m, size_t n)
+{
+    return LATTICE_HEADER_BYTES + (n + 3) * lattice_row_bytes(m) + LATTICE_CLOSING_BYTES;
+}
+
+static verdict check_lattice_row(const uint8_t *file, size_t file_len, size_t at, size_t m, size_t r)
+{
+    verdict bad = open_record(file, file_len, at, lattice_row_bytes(m), 'L', 'R');
+    if (bad.number != 0)
+        return bad;
+    if (get_u16(file + at + 2) != r)
+        return (verdict){ 11, at + 2 };
+    for (size_t value = at + 4; value < at + lattice_row_bytes(m); value += 8)
+        if (!in_range(get_i64(file + value)))
+            return (verdict){ 11, value };
+    return (verdict){ 0, 0 };
+}
+
+/* The rows, the closing record and the end of a file whose header is good. */
+static verdict check_lattice_records(const uint8_t *file, size_t file_len, size_t m, size_t n)
+{
+    size_t at = LATTICE_HEADER_BYTES;
+    for (size_t r = 0; r < n + 3; r++, at += lattice_row_bytes(m)) {
+        verdict bad = check_lattice_row(file, file_len, at, m, r);
+        if (bad.number != 0)
+            return bad;
     }
-    answer.count = columns * rows;
-    return answer;
+    verdict bad = open_record(file, file_len, at, LATTICE_CLOSING_BYTES, 'L', 'E');
+    if (bad.number != 0)
+        return bad;
+    if (get_u16(file + at + 2) != n + 3)
+        return (verdict){ 11, at + 2 };
+    at += LATTICE_CLOSING_BYTES;
+    if (at < file_len)
+        return (verdict){ 12, at };
+    return (verdict){ 0, 0 };
 }
 
-/* ---- Files: little-endian, a two-byte mark before each record ---- */
-
-static const uint8_t LH[2] = { 0x4C, 0x48 };
-static const uint8_t LR[2] = { 0x4C, 0x52 };
-static const uint8_t LE[2] = { 0x4C, 0x45 };
-static const uint8_t PH[2] = { 0x50, 0x48 };
-static const uint8_t PT[2] = { 0x50, 0x54 };
-
-static int has_mark(const uint8_t *record, const uint8_t mark[2])
-{
-    return record[0] == mark[0] && record[1] == mark[1];
-}
-
-static void put_mark(uint8_t *record, const uint8_t mark[2])
-{
-    record[0] = mark[0];
-    record[1] = mark[1];
-}
-
-static uint16_t get_u16(const uint8_t *bytes)
-{
-    return (uint16_t)(bytes[0] | bytes[1] << 8);
-}
-
-static void put_u16(uint8_t *bytes, size_t value)
-{
-    bytes[0] = (uint8_t)(value & 0xFF);
-    bytes[1] = (uint8_t)(value >> 8 & 0xFF);
-}
-
-static int64_t get_i64(const uint8_t *bytes)
-{
-    uint64_t bits = 0;
-    int byte;
-
-    for (byte = 7; byte >= 0; byte--)
-        bits = bits << 8 | bytes[byte];
-    if (bits <= INT64_MAX)
-        return (int64_t)bits;
-    return -(int64_t)~bits - 1;
-}
-
-static void put_i64(uint8_t *bytes, int64_t value)
-{
-    uint64_t bits = (uint64_t)value;
-    int byte;
-
-    for (byte = 0; byte < 8; byte++) {
-        bytes[byte] = (uint8_t)(bits & 0xFF);
-        bits >>= 8;
-    }
-}
-
+/* A refusal leaves everything, so the file is checked whole before a value is written. */
 ref_cells ref_read_lattice(const uint8_t *file, size_t file_len, int64_t *output, size_t output_len)
 {
-    ref_cells answer = { ACCEPTED, 0, 0, 0 };
-    size_t m, n, row, column, row_bytes, start;
-
-    if (file_len < 6)
-        return cells_refused(INCOMPLETE, 0);
-    if (!has_mark(file, LH))
-        return cells_refused(WRONG_MARK, 0);
-    m = get_u16(file + 2);
-    n = get_u16(file + 4);
-    if (m < 1 || m > MOST_CELLS)
-        return cells_refused(FIELD, 2);
-    if (n < 1 || n > MOST_CELLS)
-        return cells_refused(FIELD, 4);
-
-    row_bytes = 4 + 8 * (m + 3);
-    start = 6;
-    for (row = 0; row < n + 3; row++) {
-        if (file_len - start < row_bytes)
-            return cells_refused(INCOMPLETE, start);
-        if (!has_mark(file + start, LR))
-            return cells_refused(WRONG_MARK, start);
-        if (get_u16(file + start + 2) != row)
-            return cells_refused(FIELD, start + 2);
-        for (column = 0; column < m + 3; column++)
-            if (!in_range(get_i64(file + start + 4 + 8 * column)))
-                return cells_refused(FIELD, start + 4 + 8 * column);
-        start += row_bytes;
+    verdict bad = open_record(file, file_len, 0, LATTICE_HEADER_BYTES, 'L', 'H');
+    if (bad.number != 0)
+        return (ref_cells){ .number = bad.number, .place = bad.place };
+    size_t m = get_u16(file + 2), n = get_u16(file + 4);
+    if (m < 1 || m > MAX_CELLS)
+        return (ref_cells){ .number = 11, .place = 2 };
+    if (n < 1 || n > MAX_CELLS)
+        return (ref_cells){ .number = 11, .place = 4 };
+    bad = check_lattice_records(file, file_len, m, n);
+    if (bad.number != 0)
+        return (ref_cells){ .number = bad.number, .place = bad.place };
+    if (output_len < lattice_places(m, n))
+        return (ref_cells){ .number = 4 };
+    const uint8_t *at = file + LATTICE_HEADER_BYTES;
+    for (size_t r = 0; r < n + 3; r++) {
+        at += 4;
+        for (size_t i = 0; i < m + 3; i++, at += 8)
+            *output++ = get_i64(at);
     }
-
-    if (file_len - start < 4)
-        return cells_refused(INCOMPLETE, start);
-    if (!has_mark(file + start, LE))
-        return cells_refused(WRONG_MARK, start);
-    if (get_u16(file + start + 2) != n + 3)
-        return cells_refused(FIELD, start + 2);
-    start += 4;
-
-    if (file_len > start)
-        return cells_refused(AFTER_THE_END, start);
-    if (output_len < places(m, n))
-        return cells_refused(TOO_SHORT, 0);
-
-    /* All is allowed: only now write. */
-    for (row = 0; row < n + 3; row++) {
-        const uint8_t *values = file + 6 + row * row_bytes + 4;
-        for (column = 0; column < m + 3; column++)
-            output[row * (m + 3) + column] = get_i64(values + 8 * column);
-    }
-    answer.m = m;
-    answer.n = n;
-    return answer;
+    return (ref_cells){ .m = m, .n = n };
 }
 
 ref_count ref_write_lattice(size_t m, size_t n, const int64_t *lattice, size_t lattice_len,
                             uint8_t *output, size_t output_len)
 {
-    ref_count answer = { ACCEPTED, 0, 0 };
-    size_t bytes, offender, row, column;
-    uint8_t *to = output;
-
-    if (!cells_allowed(m, n, MOST_CELLS))
-        return count_refused(CELLS, 0);
-    bytes = 6 + (n + 3) * (4 + 8 * (m + 3)) + 4;
-    if (lattice_len < places(m, n) || output_len < bytes)
-        return count_refused(TOO_SHORT, 0);
-    offender = first_out_of_range(lattice, places(m, n));
-    if (offender < places(m, n))
-        return count_refused(OUT_OF_RANGE, offender);
-
-    put_mark(to, LH);
-    put_u16(to + 2, m);
-    put_u16(to + 4, n);
-    to += 6;
-    for (row = 0; row < n + 3; row++) {
-        put_mark(to, LR);
-        put_u16(to + 2, row);
-        to += 4;
-        for (column = 0; column < m + 3; column++) {
-            put_i64(to, lattice[row * (m + 3) + column]);
-            to += 8;
-        }
+    if (!cells_allowed(m, n, MAX_CELLS))
+        return (ref_count){ .number = 1 };
+    size_t places = lattice_places(m, n), bytes = lattice_file_bytes(m, n);
+    if (lattice_len < places || output_len < bytes)
+        return (ref_count){ .number = 4 };
+    size_t bad = first_out_of_range(lattice, places);
+    if (bad < places)
+        return (ref_count){ .number = 6, .place = bad };
+    put_mark(output, 'L', 'H');
+    put_u16(output + 2, m);
+    put_u16(output + 4, n);
+    uint8_t *at = output + LATTICE_HEADER_BYTES;
+    for (size_t r = 0; r < n + 3; r++) {
+        put_mark(at, 'L', 'R');
+        put_u16(at + 2, r);
+        at += 4;
+        for (size_t i = 0; i < m + 3; i++, at += 8)
+            put_i64(at, *lattice++);
     }
-    put_mark(to, LE);
-    put_u16(to + 2, n + 3);
-    answer.count = bytes;
-    return answer;
+    put_mark(at, 'L', 'E');
+    put_u16(at + 2, n + 3);
+    return (ref_count){ .count = bytes };
+}
+
+/* ---- Point files ---- */
+
+/* The header record; its last field, the count of points, may be any u16. */
+static verdict check_point_header(const uint8_t *file, size_t file_len)
+{
+    verdict bad = open_record(file, file_len, 0, POINT_HEADER_BYTES, 'P', 'H');
+    if (bad.number != 0)
+        return bad;
+    if (file[2] < 1 || file[2] > MAX_COARSEST)
+        return (verdict){ 11, 2 };
+    if (file[3] < 1 || file[3] > MAX_COARSEST)
+        return (verdict){ 11, 3 };
+    if (file[4] > MAX_H)
+        return (verdict){ 11, 4 };
+    if (file[5] != 0)
+        return (verdict){ 11, 5 };
+    return (verdict){ 0, 0 };
+}
+
+/* The points and the end of a file whose header is good. */
+static verdict check_point_records(const uint8_t *file, size_t file_len, size_t points,
+                                   size_t x_edge, size_t y_edge)
+{
+    size_t at = POINT_HEADER_BYTES;
+    for (size_t i = 0; i < points; i++, at += POINT_BYTES) {
+        verdict bad = open_record(file, file_len, at, POINT_BYTES, 'P', 'T');
+        if (bad.number != 0)
+            return bad;
+        if (get_u16(file + at + 2) > x_edge)
+            return (verdict){ 11, at + 2 };
+        if (get_u16(file + at + 4) > y_edge)
+            return (verdict){ 11, at + 4 };
+        if (!in_range(get_i64(file + at + 6)))
+            return (verdict){ 11, at + 6 };
+    }
+    if (at < file_len)
+        return (verdict){ 12, at };
+    return (verdict){ 0, 0 };
 }
 
 ref_header ref_read_points(const uint8_t *file, size_t file_len, uint16_t *x, size_t x_len,
                            uint16_t *y, size_t y_len, int64_t *z, size_t z_len)
 {
-    ref_header answer = { ACCEPTED, 0, 0, 0, 0, 0 };
-    size_t m0, n0, h, points, far_x, far_y, point, start;
-
-    if (file_len < 8)
-        return header_refused(INCOMPLETE, 0);
-    if (!has_mark(file, PH))
-        return header_refused(WRONG_MARK, 0);
-    m0 = file[2];
-    n0 = file[3];
-    h = file[4];
-    points = get_u16(file + 6);
-    if (m0 < 1 || m0 > MOST_COARSE_CELLS)
-        return header_refused(FIELD, 2);
-    if (n0 < 1 || n0 > MOST_COARSE_CELLS)
-        return header_refused(FIELD, 3);
-    if (h > MOST_LEVEL)
-        return header_refused(FIELD, 4);
-    if (file[5] != 0)
-        return header_refused(FIELD, 5);
-
-    far_x = FINEST_UNIT * (m0 << h);
-    far_y = FINEST_UNIT * (n0 << h);
-    start = 8;
-    for (point = 0; point < points; point++) {
-        if (file_len - start < 14)
-            return header_refused(INCOMPLETE, start);
-        if (!has_mark(file + start, PT))
-            return header_refused(WRONG_MARK, start);
-        if (get_u16(file + start + 2) > far_x)
-            return header_refused(FIELD, start + 2);
-        if (get_u16(file + start + 4) > far_y)
-            return header_refused(FIELD, start + 4);
-        if (!in_range(get_i64(file + start + 6)))
-            return header_refused(FIELD, start + 6);
-        start += 14;
-    }
-
-    if (file_len > start)
-        return header_refused(AFTER_THE_END, start);
+    verdict bad = check_point_header(file, file_len);
+    if (bad.number != 0)
+        return (ref_header){ .number = bad.number, .place = bad.place };
+    size_t m0 = file[2], n0 = file[3], h = file[4], points = get_u16(file + 6);
+    bad = check_point_records(file, file_len, points, far_edge(m0, h), far_edge(n0, h));
+    if (bad.number != 0)
+        return (ref_header){ .number = bad.number, .place = bad.place };
     if (x_len < points || y_len < points || z_len < points)
-        return header_refused(TOO_SHORT, 0);
-
-    /* All is allowed: only now write. */
-    for (point = 0; point < points; point++) {
-        const uint8_t *record = file + 8 + 14 * point;
-        x[point] = get_u16(record + 2);
-        y[point] = get_u16(record + 4);
-        z[point] = get_i64(record + 6);
+        return (ref_header){ .number = 4 };
+    const uint8_t *at = file + POINT_HEADER_BYTES;
+    for (size_t i = 0; i < points; i++, at += POINT_BYTES) {
+        x[i] = get_u16(at + 2);
+        y[i] = get_u16(at + 4);
+        z[i] = get_i64(at + 6);
     }
-    answer.m0 = m0;
-    answer.n0 = n0;
-    answer.h = h;
-    answer.points = points;
-    return answer;
+    return (ref_header){ .m0 = m0, .n0 = n0, .h = h, .points = points };
 }
 
 ref_count ref_write_points(size_t m0, size_t n0, size_t h,
                            const uint16_t *x, size_t x_len, const uint16_t *y, size_t y_len,
                            const int64_t *z, size_t z_len, uint8_t *output, size_t output_len)
 {
-    ref_count answer = { ACCEPTED, 0, 0 };
-    ref_count checked;
-    size_t points, point;
-
-    if (!cells_allowed(m0, n0, MOST_COARSE_CELLS))
-        return count_refused(CELLS, 0);
-    if (h > MOST_LEVEL)
-        return count_refused(LEVEL_OR_UNIT, 0);
-    if (x_len != y_len || x_len != z_len || x_len > MOST_POINTS)
-        return count_refused(LISTS, 0);
-    points = x_len;
-    if (output_len < 8 + 14 * points)
-        return count_refused(TOO_SHORT, 0);
-    checked = check_points(m0, n0, h, x, y, z, points);
-    if (checked.number != ACCEPTED)
-        return checked;
-
-    put_mark(output, PH);
+    uint64_t number = check_lists(m0, n0, h, x_len, y_len, z_len);
+    if (number != 0)
+        return (ref_count){ .number = number };
+    size_t points = x_len, bytes = POINT_HEADER_BYTES + points * POINT_BYTES;
+    if (output_len < bytes)
+        return (ref_count){ .number = 4 };
+    verdict bad = check_points(m0, n0, h, points, x, y, z);
+    if (bad.number != 0)
+        return (ref_count){ .number = bad.number, .place = bad.place };
+    put_mark(output, 'P', 'H');
     output[2] = (uint8_t)m0;
     output[3] = (uint8_t)n0;
     output[4] = (uint8_t)h;
     output[5] = 0;
     put_u16(output + 6, points);
-    for (point = 0; point < points; point++) {
-        uint8_t *record = output + 8 + 14 * point;
-        put_mark(record, PT);
-        put_u16(record + 2, x[point]);
-        put_u16(record + 4, y[point]);
-        put_i64(record + 6, z[point]);
+    uint8_t *at = output + POINT_HEADER_BYTES;
+    for (size_t i = 0; i < points; i++, at += POINT_BYTES) {
+        put_mark(at, 'P', 'T');
+        put_u16(at + 2, x[i]);
+        put_u16(at + 4, y[i]);
+        put_i64(at + 6, z[i]);
     }
-    answer.count = 8 + 14 * points;
-    return answer;
+    return (ref_count){ .count = bytes };
 }
 
 /* ---- The program ---- */
 
-/* "refused N P" and one newline. */
+/* The line "refused N P"; set up aside, so that no byte after it is written. */
 static size_t write_refusal(uint64_t number, uint64_t place, uint8_t *output)
 {
     char line[64];
-    int length = snprintf(line, sizeof line, "refused %llu %llu\n",
-                          (unsigned long long)number, (unsigned long long)place);
-    memcpy(output, line, (size_t)length);
-    return (size_t)length;
+    int bytes = snprintf(line, sizeof line, "refused %" PRIu64 " %" PRIu64 "\n", number, place);
+    memcpy(output, line, (size_t)bytes);
+    return (size_t)bytes;
 }
 
 size_t ref_program(const uint8_t *input, size_t input_len, uint8_t *output)
 {
     uint16_t x[PROGRAM_POINTS], y[PROGRAM_POINTS];
-    int64_t z[PROGRAM_POINTS];
-    int64_t lattice[PROGRAM_PLACES], residual[PROGRAM_POINTS];
+    int64_t z[PROGRAM_POINTS], residual[PROGRAM_POINTS], lattice[PROGRAM_PLACES];
     int64_t whole[3 * PROGRAM_PLACES + PROGRAM_POINTS];
     double floats[2 * PROGRAM_PLACES];
-    ref_header header;
-    ref_cells cells;
-    ref_count written;
-    size_t points;
 
     if (input_len > PROGRAM_BYTES)
-        return write_refusal(TOO_SHORT, 0, output);
-    header = ref_read_points(input, input_len, x, PROGRAM_POINTS, y, PROGRAM_POINTS, z, PROGRAM_POINTS);
-    if (header.number != ACCEPTED)
+        return write_refusal(4, 0, output);
+    ref_header header = ref_read_points(input, input_len, x, PROGRAM_POINTS, y, PROGRAM_POINTS,
+                                        z, PROGRAM_POINTS);
+    if (header.number != 0)
         return write_refusal(header.number, header.place, output);
     if (header.m0 << header.h > PROGRAM_CELLS || header.n0 << header.h > PROGRAM_CELLS)
-        return write_refusal(TOO_SHORT, 0, output);
-
-    points = (size_t)header.points;
-    cells = ref_fit((size_t)header.m0, (size_t)header.n0, (size_t)header.h,
-                    x, points, y, points, z, points,
-                    lattice, PROGRAM_PLACES, residual, PROGRAM_POINTS,
-                    whole, 3 * PROGRAM_PLACES + PROGRAM_POINTS, floats, 2 * PROGRAM_PLACES);
-    if (cells.number != ACCEPTED)
-        return write_refusal(cells.number, cells.place, output);
-
-    written = ref_write_lattice((size_t)cells.m, (size_t)cells.n, lattice, PROGRAM_PLACES,
-                                output, PROGRAM_OUTPUT);
-    if (written.number != ACCEPTED)     /* cannot happen: the fit's lattice is in range */
-        return write_refusal(written.number, written.place, output);
-    return (size_t)written.count;
+        return write_refusal(4, 0, output);
+    ref_cells fit = ref_fit(header.m0, header.n0, header.h,
+                            x, header.points, y, header.points, z, header.points,
+                            lattice, PROGRAM_PLACES, residual, PROGRAM_POINTS,
+                            whole, 3 * PROGRAM_PLACES + PROGRAM_POINTS, floats, 2 * PROGRAM_PLACES);
+    if (fit.number != 0)
+        return write_refusal(fit.number, fit.place, output);
+    return ref_write_lattice(fit.m, fit.n, lattice, PROGRAM_PLACES, output, PROGRAM_OUTPUT).count;
 }
 
-/* ---- Demand 3 in whole numbers ---- */
+/*
+ * ---- Demand 3 ----
+ *
+ * Why 128 bits suffice. A basis double sum has non-negative products of numerators
+ * that add up to 36U^6, so it is at most 36U^6 times the greatest control value:
+ * with U at most 512, 36 * 2^54 < 2^60 times anything in 64 bits stays below 2^123.
+ * Level k of T: its U is 16 * 2^(h-k), so D / 36U^6 is 2^(6k), and its term is the
+ * double sum times 2^(6k), at most BOUND * D < 2^32 * 2^60 = 2^92. The sum of the
+ * at most six terms is below 2^95, and so are its partial sums. V is one such term.
+ * 2 * D * height is below 2 * 2^60 * 2^63 = 2^124 for any 64-bit height, so its
+ * difference from 2 * T is below 2^125. (h + 2) * D is below 2^63.
+ */
 
 size_t ref_level_places(size_t m0, size_t n0, size_t k)
 {
-    return places(m0 << k, n0 << k);
-}
-
-ref_cells ref_fit_levels(size_t m0, size_t n0, size_t h,
-                         const uint16_t *x, size_t x_len, const uint16_t *y, size_t y_len,
-                         const int64_t *z, size_t z_len,
-                         int64_t *lattice, size_t lattice_len, int64_t *residual, size_t residual_len,
-                         int64_t *whole, size_t whole_len, double *floats, size_t floats_len,
-                         int64_t *const *levels)
-{
-    return fit(m0, n0, h, x, x_len, y, y_len, z, z_len, lattice, lattice_len,
-               residual, residual_len, whole, whole_len, floats, floats_len, levels);
+    return lattice_places(m0 << k, n0 << k);
 }
 
 ref_wide ref_surface(size_t m, size_t n, size_t unit, const int64_t *lattice, size_t x, size_t y)
 {
-    const axis_place px = place_on_axis(x, m, unit);
-    const axis_place py = place_on_axis(y, n, unit);
+    size_t cell_x = x / unit, cell_y = y / unit;
+    if (cell_x == m)                /* the far edge again; here U may be no power of two */
+        cell_x--;
+    if (cell_y == n)
+        cell_y--;
+    int64_t on_x[4], on_y[4];
+    basis_numerators((int64_t)unit, (int64_t)(x - cell_x * unit), on_x);
+    basis_numerators((int64_t)unit, (int64_t)(y - cell_y * unit), on_y);
     ref_wide sum = 0;
-    size_t k, l;
-
-    for (l = 0; l < 4; l++)
-        for (k = 0; k < 4; k++)
-            sum += (ref_wide)px.numerator[k] * py.numerator[l]
-                   * lattice[(py.cell + l) * (m + 3) + px.cell + k];
+    for (size_t l = 0; l < 4; l++)
+        for (size_t k = 0; k < 4; k++)
+            sum += (ref_wide)(on_x[k] * on_y[l]) * lattice[(cell_y + l) * (m + 3) + cell_x + k];
     return sum;
-}
-
-/* 36 * unit^6 */
-static ref_wide surface_divisor(size_t unit)
-{
-    return (ref_wide)divisor_of(unit) * divisor_of(unit);
 }
 
 ref_wide ref_D(size_t h)
 {
-    return surface_divisor((size_t)FINEST_UNIT << h);
+    ref_wide cube = (ref_wide)1 << 3 * (FINEST_SHIFT + h);
+    return 36 * cube * cube;
 }
 
 ref_wide ref_T(size_t m0, size_t n0, size_t h, int64_t *const *levels, size_t x, size_t y)
 {
     ref_wide sum = 0;
-    size_t k;
-
-    for (k = 0; k <= h; k++) {
-        const size_t unit = (size_t)FINEST_UNIT << (h - k);
-        /* D is a whole multiple, 2^(6k), of the level's own 36 U^6. */
-        sum += ref_surface(m0 << k, n0 << k, unit, levels[k], x, y) * (ref_D(h) / surface_divisor(unit));
-    }
+    for (size_t k = 0; k <= h; k++)
+        sum += ref_surface(m0 << k, n0 << k, (size_t)16 << (h - k), levels[k], x, y)
+             * ((ref_wide)1 << 6 * k);
     return sum;
 }
 
 ref_wide ref_V(size_t m0, size_t n0, size_t h, const int64_t *lattice, size_t x, size_t y)
 {
-    return ref_surface(m0 << h, n0 << h, FINEST_UNIT, lattice, x, y)
-           * (ref_D(h) / surface_divisor(FINEST_UNIT));
+    return ref_surface(m0 << h, n0 << h, 16, lattice, x, y) * ((ref_wide)1 << 6 * h);
 }
 
 void ref_demand3(size_t m0, size_t n0, size_t h, int64_t *const *levels, const int64_t *lattice,
@@ -878,14 +841,12 @@ void ref_demand3(size_t m0, size_t n0, size_t h, int64_t *const *levels, const i
 int ref_demand3_holds(size_t m0, size_t n0, size_t h, int64_t *const *levels, const int64_t *lattice,
                       size_t x, size_t y, ref_height answer)
 {
-    ref_wide d, t, v, distance, most;
-
-    if (answer.number != ACCEPTED)
+    if (answer.number != 0)
         return 0;
+    ref_wide d, t, v;
     ref_demand3(m0, n0, h, levels, lattice, x, y, &d, &t, &v);
-    distance = 2 * d * answer.height - 2 * t;
-    if (distance < 0)
-        distance = -distance;
-    most = (ref_wide)(h + 2) * d;
-    return distance < most || (distance == most && v == t);
+    ref_wide off = 2 * d * answer.height - 2 * t;
+    if (off < 0)
+        off = -off;
+    return off <= (ref_wide)(h + 2) * d;
 }

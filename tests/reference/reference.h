@@ -1,7 +1,6 @@
 /*
  * A second implementation of the ground lattice of document 01, in plain C99,
- * written from document 01's text alone (and the same authors' clarifications
- * of it). It shares nothing with the product or with its definitions.
+ * written from document 01's text alone.
  *
  * Every call checks its arguments itself, refuses as document 01 says and then
  * leaves the slices as document 01 says. Any argument may have any value; a
@@ -91,8 +90,8 @@ void ref_demand3(size_t m0, size_t n0, size_t h, int64_t *const *levels, const i
                  size_t x, size_t y, ref_wide *d, ref_wide *t, ref_wide *v);
 
 /*
- * 1 if demand 3 holds of this height answer at this position, else 0: accepted,
- * |2 D height - 2 T| at most (h + 2) D, and V = T in the equal case.
+ * 1 if demand 3's distance holds of this height answer at this position, else 0: accepted, and
+ * |2 D height - 2 T| at most (h + 2) D. The equal case is compare/demand3.c's, which sees the levels whole.
  */
 int ref_demand3_holds(size_t m0, size_t n0, size_t h, int64_t *const *levels, const int64_t *lattice,
                       size_t x, size_t y, ref_height answer);
