@@ -1,10 +1,13 @@
 -- What a check that refuses nothing has shown: the bounds that callers go on with.
-use Prim.Native.Nat.{ℕ, _≤_}
+use Prim.Native.Nat.{ℕ, _+_, _*_, _^_, _≤_}
 use mathlib.Core.Path.{_≡_}
 use mathlib.Core.Bool.{_&&_}
 use mathlib.Core.Option.{none}
 use mathlib.Core.List.{List}
+use native.Mathlib.Nat.{mul-le-mul}
+use native.Mathlib.Omega.{arith}
 use lib.IntN.{ℤ}
+use lib.Pow.{pow-mono}
 use Rattle.rules.specs.Grid.{within, controls}
 use Rattle.rules.specs.Answers.{cells, range}
 use Rattle.rules.specs.Calls.{cellsCheck, latticeCheck}
@@ -21,3 +24,18 @@ cells-passed most m n e =
 pub lattice-passed : (m n : ℕ) (values : List ℤ) → latticeCheck m n values ≡ none → AllInRange (controls m n) values
 unfolding latticeCheck
 lattice-passed m n values e = rangeCheck-size (controls m n) values range e
+
+-- ---- so the products of these bounds fit the machine
+
+pub controls-fit : (m n : ℕ) → m ≤ 512 → n ≤ 512 → (m + 3) * (n + 3) ≤ 515 * 515
+controls-fit m n h k =
+    let a : m + 3 ≤ 515 = omega arith in
+    let b : n + 3 ≤ 515 = omega arith in
+    mul-le-mul a b
+
+pub edge-fits : (e m : ℕ) → e ≤ 9 → m ≤ 512 → 2 ^ e * m ≤ 512 * 512
+edge-fits e m h k = mul-le-mul (pow-mono {i = e} {j = 9} h) k
+
+-- the same of a unit that is known to be 2^e
+pub last-fits : {U : ℕ} (e m : ℕ) → U ≡ 2 ^ e → e ≤ 9 → m ≤ 512 → U * m ≤ 512 * 512
+last-fits e m u h k = rw u (edge-fits e m h k)

@@ -34,8 +34,8 @@ weight b = natAbs (b .b0) + natAbs (b .b1) + natAbs (b .b2) + natAbs (b .b3)
 abbrev pub products : Basis → (ℕ → ℤ) → ℕ → ℤ
 products b f q = b .b0 *ℤ f q +ℤ b .b1 *ℤ f (q + 1) +ℤ b .b2 *ℤ f (q + 2) +ℤ b .b3 *ℤ f (q + 3)
 
--- a lattice and a position that a height can be read from without a check
-pub record Readable (m n e : ℕ) (lattice : List ℤ) (x y : ℕ) : Type 0 where
+-- a lattice that heights can be read from without a check
+pub record Grounded (m n e : ℕ) (lattice : List ℤ) : Type 0 where
   pub columns : 0 < m
   pub columns-most : m ≤ 512
   pub rows : 0 < n
@@ -43,6 +43,10 @@ pub record Readable (m n e : ℕ) (lattice : List ℤ) (x y : ℕ) : Type 0 wher
   pub exponent : e ≤ 9
   pub long : controls m n ≤ length lattice
   pub ranged : AllInRange (controls m n) lattice
+
+-- the same with a position in it
+pub record Readable (m n e : ℕ) (lattice : List ℤ) (x y : ℕ) : Type 0 where
+  pub ground : Grounded m n e lattice
   pub x-inside : x ≤ 2 ^ e * m
   pub y-inside : y ≤ 2 ^ e * n
 

@@ -75,10 +75,10 @@ rowHeight U m l x t = near (along U m x (λ s. control m l s t)) (denominator U)
 
 module _ {m n e : ℕ} {l : List ℤ} {x y : ℕ} (r : Readable m n e l x y) where
   pub on-x : On (2 ^ e) m x
-  on-x = record { unit = pow-pos e; unit-most = pow-mono {j = 9} (r .exponent); cells = r .columns; inside = r .x-inside }
+  on-x = record { unit = pow-pos e; unit-most = pow-mono {j = 9} (r .ground .exponent); cells = r .ground .columns; inside = r .x-inside }
 
   pub on-y : On (2 ^ e) n y
-  on-y = record { unit = pow-pos e; unit-most = pow-mono {j = 9} (r .exponent); cells = r .rows; inside = r .y-inside }
+  on-y = record { unit = pow-pos e; unit-most = pow-mono {j = 9} (r .ground .exponent); cells = r .ground .rows; inside = r .y-inside }
 
   pub row-within : (t : ℕ) → t < n + 3 → natAbs (rowHeight (2 ^ e) m l x t) ≤ 4_000_000_000
   unfolding denominator
@@ -87,7 +87,7 @@ module _ {m n e : ℕ} {l : List ℤ} {x y : ℕ} (r : Readable m n e l x y) whe
       let u : 0 < U = pow-pos e in
       let f : ℕ → ℤ = λ s. control m l s t in
       near-within (along U m x f) (denominator U) 4_000_000_000 (omega (arith, mul-pos (mul-pos u u) u))
-      (along-bound U m x u (r .columns) (r .x-inside) f 4_000_000_000 (λ s k. control-within m n l (r .ranged) .size s t k h))
+      (along-bound U m x u (r .ground .columns) (r .x-inside) f 4_000_000_000 (λ s k. control-within m n l (r .ground .ranged) .size s t k h))
 
   -- the four rows that a position reads lie in the lattice: the last place of the last row does
   pub last-place : {bx by : Basis} {cx cy : ℕ} → Placed (2 ^ e) m x bx cx → Placed (2 ^ e) n y by cy

@@ -2,13 +2,14 @@
 use mathlib.Core.Path.{_≡_, _∙_}
 use mathlib.Core.List.{List}
 use Prim.Native.Nat.{ℕ, _+_, _*_, _^_, _≤_, _<_}
-use native.Mathlib.Nat.{mul-le-mul, le-trans}
+use native.Mathlib.Nat.{le-trans}
 use native.Mathlib.Decide.{decLt}
 use native.Mathlib.Omega.{arith}
 use lib.IntN.{ℤ, pos}
 use lib.ListN.{length, getD, set, length-set}
 use lib.Pow.{pow-pos, pow-mono}
 use lib.Seq.{getD-set-same, getD-set-other}
+use Rattle.checks.specs.Passed.{edge-fits}
 use Rattle.heights.specs.Reading.{Weighs, Located, weight}
 use Rattle.heights.specs.Sums.{On, Placed, offset-most}
 use Rattle.heights.specs.declared.Basis.{Basis}
@@ -16,13 +17,6 @@ use Rattle.heights.specs.declared.Spot.{Spot}
 use Rattle.raster.specs.Strips.{Columns, tapsAt, Tapped}
 use Rattle.raster.specs.declared.Strip.{Strip}
 use Rattle.raster.proofs.Taps.{basisBack, basis-back}
-
-pub edge-fits : (e m : ℕ) → e ≤ 9 → m ≤ 512 → 2 ^ e * m ≤ 512 * 512
-edge-fits e m h k = mul-le-mul (pow-mono {i = e} {j = 9} h) k
-
--- the same of a unit that is known to be 2^e
-pub last-fits : {U : ℕ} (e m : ℕ) → U ≡ 2 ^ e → e ≤ 9 → m ≤ 512 → U * m ≤ 512 * 512
-last-fits e m u h k = rw u (edge-fits e m h k)
 
 pub on-grid : (e m x : ℕ) → e ≤ 9 → 0 < m → x ≤ 2 ^ e * m → On (2 ^ e) m x
 on-grid e m x h k l = record { unit = pow-pos e; unit-most = pow-mono {j = 9} h; cells = k; inside = l }

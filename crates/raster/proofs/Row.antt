@@ -12,13 +12,14 @@ use Rattle.rules.specs.Rounding.{near}
 use Rattle.rules.specs.Grid.{controls}
 use Rattle.rules.specs.Surface.{denominator, cell}
 use Rattle.rules.specs.Laws.Basis.{cell-below}
+use Rattle.checks.specs.Passed.{edge-fits}
 use Rattle.heights.specs.Reading.{Weighs, Located, Readable, weight}
 use Rattle.heights.specs.Sums.{On, Placed, weight-most, placed-below, same-products, rowHeight, row-within, row-is, height-is}
 use Rattle.heights.specs.declared.Basis.{Basis}
 use Rattle.heights.specs.declared.Spot.{Spot}
 use Rattle.raster.specs.Strips.{Ready, Tapped, Rows, Ringed, RowReady, Room, rowCell, sumAt, nodeAt, stripHeight, RingInRange}
 use Rattle.raster.specs.declared.Strip.{Strip}
-use Rattle.raster.proofs.Columns.{edge-fits, on-grid, on-column, placed}
+use Rattle.raster.proofs.Columns.{on-grid, on-column, placed}
 
 module _ {s : Strip} {j next : ℕ} {l : List ℤ} {cells : List ℕ} {taps ring : List ℤ} {room : ℕ} (row : RowReady s j next l cells taps ring room)
     (ready : Ready s l) (tapped : Tapped s (s .w) cells taps) where
@@ -30,18 +31,7 @@ module _ {s : Strip} {j next : ℕ} {l : List ℤ} {cells : List ℕ} {taps ring
 
   readable : (i : ℕ) → i < s .w → Readable (s .m) (s .n) (s .e) l (s .x + s .step * i) (s .y0 + s .step * j)
   readable i h =
-      let g = ready .ground in
-      record {
-        columns = g .columns;
-        columns-most = g .columns-most;
-        rows = g .rows;
-        rows-most = g .rows-most;
-        exponent = g .exponent;
-        long = g .long;
-        ranged = g .ranged;
-        x-inside = ready .columns .inside i h;
-        y-inside = row .inside;
-      }
+      record { ground = ready .ground; x-inside = ready .columns .inside i h; y-inside = row .inside }
 
   module _ {p : Spot} (found : Located p (2 ^ s .e) (s .n) (s .y0 + s .step * j)) where
     pub below : p .cell < s .n

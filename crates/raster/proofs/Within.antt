@@ -10,10 +10,11 @@ use lib.Pow.{pow-mono}
 use Rattle.algebra.specs.Table.{tabulate, over, over-none}
 use Rattle.rules.specs.Grid.{control}
 use Rattle.rules.specs.Surface.{height}
+use Rattle.checks.specs.Passed.{edge-fits}
+use Rattle.heights.specs.Reading.{Grounded}
 use Rattle.raster.specs.Sampled.{NodesInside, nodeHeight}
-use Rattle.raster.specs.Strips.{Grounded, Ready, Room, stripHeight, Striped}
+use Rattle.raster.specs.Strips.{Ready, Room, stripHeight, Striped}
 use Rattle.raster.specs.declared.Strip.{Strip}
-use Rattle.raster.proofs.Columns.{edge-fits}
 use Rattle.raster.proofs.Stripes.{all-striped}
 
 -- the height at row j and column c

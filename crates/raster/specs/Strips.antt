@@ -9,22 +9,12 @@ use Rattle.rules.specs.Rounding.{near}
 use Rattle.rules.specs.Grid.{controls, control}
 use Rattle.rules.specs.Surface.{denominator, cell, height}
 use Rattle.rules.specs.Laws.Checks.{AllInRange}
-use Rattle.heights.specs.Reading.{weight, products}
+use Rattle.heights.specs.Reading.{Grounded, weight, products}
 use Rattle.heights.specs.Sums.{Placed}
 use Rattle.heights.specs.declared.Basis.{Basis}
 use Rattle.raster.specs.declared.Strip.{Strip}
 
 -- ---- what is known of a lattice and of a strip
-
--- a lattice that heights can be read from without a check
-pub record Grounded (m n e : ℕ) (lattice : List ℤ) : Type 0 where
-  pub columns : 0 < m
-  pub columns-most : m ≤ 512
-  pub rows : 0 < n
-  pub rows-most : n ≤ 512
-  pub exponent : e ≤ 9
-  pub long : controls m n ≤ length lattice
-  pub ranged : AllInRange (controls m n) lattice
 
 -- a strip's columns lie on the grid
 pub record Columns (s : Strip) : Type 0 where

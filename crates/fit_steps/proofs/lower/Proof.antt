@@ -59,13 +59,15 @@ module _ (c : tie.In-loop Inv-loop μ-loop) where
       let p = start .pre in
       rw part-is
       (record {
-        columns = p .columns;
-        columns-most = p .columns-most;
-        rows = p .rows;
-        rows-most = p .rows-most;
-        exponent = p .exponent;
-        long = rw (length-area (start .args .level) (controls (start .args .m) (start .args .n)) whole (omega arith)) (omega arith);
-        ranged = p .level-ranged;
+        ground = record {
+          columns = p .columns;
+          columns-most = p .columns-most;
+          rows = p .rows;
+          rows-most = p .rows-most;
+          exponent = p .exponent;
+          long = rw (length-area (start .args .level) (controls (start .args .m) (start .args .n)) whole (omega arith)) (omega arith);
+          ranged = p .level-ranged;
+        };
         x-inside = p .x-inside i (c .loop-test .taken);
         y-inside = p .y-inside i (c .loop-test .taken);
       })

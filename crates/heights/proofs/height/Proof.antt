@@ -3,13 +3,11 @@ use mathlib.Core.Path.{_≡_, sym, ap, subst, _∙_}
 use mathlib.Core.Option.{none, some}
 use mathlib.Core.List.{List}
 use Prim.Native.Nat.{ℕ, _+_, _*_, _^_, _≤_, _<_}
-use native.Mathlib.Nat.{mul-le-mul}
 use native.Mathlib.Omega.{arith}
 use borrow.Author.Needs.{needs}
 use borrow.Author.Tests.{lt-leb, le-leb}
 use lib.IntN.{ℤ}
 use lib.ListN.{length}
-use lib.Pow.{pow-mono}
 use Rattle.machine.specs.Held.{returned}
 use Rattle.rules.specs.Answers.{Refusal, short, position, require, _then_, accepted, refused, answer}
 use Rattle.rules.specs.Grid.{inside, controls, control}
@@ -17,7 +15,7 @@ use Rattle.rules.specs.Surface as rule
 use Rattle.rules.specs.Calls.{cellsCheck, unitCheck, latticeCheck, heightCheck, heightAnswer}
 use Rattle.answers.specs.Cause.{check}
 use Rattle.checks.specs.Found.{Exponent·says}
-use Rattle.checks.specs.Passed.{cells-passed, lattice-passed}
+use Rattle.checks.specs.Passed.{cells-passed, lattice-passed, controls-fit, last-fits}
 use Rattle.checks.specs.declared.Exponent.the-variants.{Of}
 use Rattle.heights.proofs.height.Statement.{statement}
 use Rattle.heights.proofs.height.Tie as tie
@@ -57,17 +55,6 @@ module _ (m n U : ℕ) (l : List ℤ) (x y : ℕ) where
           unfolding heightAnswer heightCheck answer _then_ require controls inside
           accepted-height h k = rw (cells, unit, le-leb ((m + 3) * (n + 3)) (length l) long, ranged, le-leb x (U * m) h, le-leb y (U * n) k)
 
--- ---- sizes
-
-controls-fit : (m n : ℕ) → m ≤ 512 → n ≤ 512 → (m + 3) * (n + 3) ≤ 515 * 515
-controls-fit m n h k =
-    let a : m + 3 ≤ 515 = omega arith in
-    let b : n + 3 ≤ 515 = omega arith in
-    mul-le-mul a b
-
-edge-fits : {U e : ℕ} (m : ℕ) → U ≡ 2 ^ e → e ≤ 9 → m ≤ 512 → U * m ≤ 512 * 512
-edge-fits {e = e} m u h k = rw u (mul-le-mul (pow-mono {i = e} {j = 9} h) k)
-
 -- ---- what is known behind each check
 
 module _ (c : tie.After-enum-told) where
@@ -88,10 +75,10 @@ module _ (c : tie.After-known-told2) where
   says = subst (Exponent·says (start first .args .unit)) (c .before .e .given .1) (c .before .before .before .listed-unit .ensures)
 
   across-fits : start first .args .unit * start first .args .m ≤ 512 * 512
-  across-fits = edge-fits (start first .args .m) (says .0) (says .2) (sides first .1)
+  across-fits = last-fits (c .before .e .given .0 .0) (start first .args .m) (says .0) (says .2) (sides first .1)
 
   up-fits : start first .args .unit * start first .args .n ≤ 512 * 512
-  up-fits = edge-fits (start first .args .n) (says .0) (says .2) (sides first .3)
+  up-fits = last-fits (c .before .e .given .0 .0) (start first .args .n) (says .0) (says .2) (sides first .3)
 
 module _ (c : tie.After-enum-told3) where
   abbrev second : tie.After-known-told2
@@ -178,13 +165,15 @@ height-within-requires c κs =
     let u = says (second p) .0 in
     let d = sides (first (second p)) in
     record {
-      columns = d .0;
-      columns-most = d .1;
-      rows = d .2;
-      rows-most = d .3;
-      exponent = says (second p) .2;
-      long = p .before .before .before .if1 .left;
-      ranged = lattice-passed _ _ _ (lattice-none p);
+      ground = record {
+        columns = d .0;
+        columns-most = d .1;
+        rows = d .2;
+        rows-most = d .3;
+        exponent = says (second p) .2;
+        long = p .before .before .before .if1 .left;
+        ranged = lattice-passed _ _ _ (lattice-none p);
+      };
       x-inside = rw u at (c .before .if2 .left);
       y-inside = rw u at (c .if3 .left);
     }

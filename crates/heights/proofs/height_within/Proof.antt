@@ -67,7 +67,7 @@ module _ (c : tie.After-basis-of2) where
   row-asked : (q : ℕ) → q ≤ cy * w + cx + w + w + w
       → (start .args .e ≤ 9) × (q + 3 < length (start .args .lattice .now)) × (weight bx ≤ 805_306_368) × AllInRange (q + 4) (start .args .lattice .now)
   row-asked q h =
-      (start .pre .exponent, omega (arith, stored), weight-most (on-x (start .pre)) across, λ i k. start .pre .ranged i (omega (arith, stored)))
+      (start .pre .ground .exponent, omega (arith, stored), weight-most (on-x (start .pre)) across, λ i k. start .pre .ground .ranged i (omega (arith, stored)))
 
   -- the height of row t
   row : ℕ → ℤ
@@ -162,7 +162,7 @@ weighed-requires c κs =
     (weight-most (on-y (start (axes c) .pre)) (up (axes c)), (small 4_000_000_000 tt (row0 c .held), small 4_000_000_000 tt (row1 c .held), small 4_000_000_000 tt (row2 c .held), small 4_000_000_000 tt (row3 c .held)))
 
 near-over-requires : tie.Need-near-over-requires
-near-over-requires c κs = search needs
+near-over-requires c κs = let exponent = start (axes (c .before)) .pre .ground .exponent in search needs
 
 pub height-within-spec : {M : Type 1} → statement M
 height-within-spec =

@@ -8,10 +8,9 @@ use Rattle.rules.specs.Grid.{controls}
 use Rattle.rules.specs.Calls.{cellsCheck, latticeCheck, defaultStep, stepOf}
 use Rattle.answers.specs.Cause.{check}
 use Rattle.checks.specs.Found.{Exponent·says}
-use Rattle.checks.specs.Passed.{cells-passed, lattice-passed}
+use Rattle.checks.specs.Passed.{cells-passed, lattice-passed, controls-fit, last-fits}
 use Rattle.checks.specs.declared.Exponent.the-variants.{Of}
 use Rattle.raster.specs.Sampled.{nodesCheck}
-use Rattle.raster.proofs.Columns.{last-fits}
 use Rattle.raster.proofs.Nodes.{nodes-inside}
 use Rattle.raster.proofs.Checked.{by-cells, by-unit, by-step, by-columns, by-rows, by-lattice-room, by-room, by-range, by-position, none-refuses}
 use borrow.Author.Needs.{needs}
@@ -19,12 +18,6 @@ use Rattle.raster.proofs.raster.Statement.{statement}
 use Rattle.raster.proofs.raster.Tie as tie
 
 -- ---- sizes
-
-controls-fit : (m n : ℕ) → m ≤ 512 → n ≤ 512 → (m + 3) * (n + 3) ≤ 515 * 515
-controls-fit m n h k =
-    let a : m + 3 ≤ 515 = omega arith in
-    let b : n + 3 ≤ 515 = omega arith in
-    mul-le-mul a b
 
 nodes-fit : (columns rows : ℕ) → columns ≤ 8_193 → rows ≤ 8_193 → columns * rows ≤ 8_193 * 8_193
 nodes-fit columns rows h k = mul-le-mul h k
