@@ -1,67 +1,93 @@
--- near of a fraction, by its sign s and its size a / d: the size of the result, and when the rules keep it.
-use mathlib.Core.Path.{_≡_, refl, sym}
-use mathlib.Core.Bool.{Bool, true, false}
+-- near of a fraction v / d: when the rules keep it, and which of n and n + 1 it is where n is no more than 1/2 away.
+use mathlib.Core.Path.{_≡_}
 use mathlib.Core.Option.{none, some}
-use Prim.Native.Nat.{ℕ, _+_, _-_, _*_, _/_, _%_, _≤_, _<_}
-use native.Mathlib.Nat.{div-add-mod, mod-lt, lt-of-mul-lt-mul-right}
+use Prim.Native.Nat.{ℕ, _+_, _≤_, _<_}
+use native.Mathlib.Nat.{lt-of-mul-lt-mul-left}
 use native.Mathlib.Omega.{arith}
 use borrow.Author.Tests.{le-leb, lt-leb}
-use lib.Dec.{lit≤}
-use lib.IntN.{pos, negℤ, natAbs}
-use Rattle.algebra.specs.Difference.{whole}
-use Rattle.algebra.specs.Size.{natAbs-neg}
+use lib.IntN.{ℤ, pos, negℤ, natAbs, _+ℤ_, _-ℤ_, _*ℤ_}
+use lib.Signed.{_≤ℤ_, _<ℤ_}
+use Rattle.algebra.specs.Difference.{posPart, negPart, split, whole}
 use Rattle.rules.specs.Grid.{limit, inRange}
 use Rattle.rules.specs.Rounding.{near}
-use Rattle.rules.specs.Level.{signed, kept}
-use Rattle.rules.specs.Laws.Rounding.{nearest-unique}
+use Rattle.rules.specs.Level.{kept}
+use Rattle.rules.specs.Laws.Rounding.{Nearest, near-nearest, nearest-unique}
 
--- 1 below zero, where an exact half goes to the smaller size
-abbrev pub bit : Bool → ℕ
-bit true = 1
-bit false = 0
+-- v / d compares with n + 1/2 and with n - 1/2 as 2v with these two
+abbrev pub over : ℤ → ℕ → ℤ
+over n d = (pos 2 *ℤ n +ℤ pos 1) *ℤ pos d
 
-pub bit-most : (s : Bool) → bit s ≤ 1
-bit-most true = lit≤ tt
-bit-most false = lit≤ tt
+abbrev pub under : ℤ → ℕ → ℤ
+under n d = (pos 2 *ℤ n -ℤ pos 1) *ℤ pos d
 
--- n is the size of near of the fraction with the sign s and the size a / d
-pub record Rounded (s : Bool) (a d n : ℕ) : Type 0 where
-  pub low : 2 * n * d + bit s ≤ 2 * a + d
-  pub high : 2 * a < 2 * n * d + d + bit s
+-- the whole number n is no more than 1/2 away
+pub record Close (v : ℤ) (d : ℕ) (n : ℤ) : Type 0 where
+  pub low : under n d ≤ℤ (pos 2 *ℤ v)
+  pub high : (pos 2 *ℤ v) ≤ℤ over n d
 
-near-size : (s : Bool) (a d n : ℕ) → 0 < d → Rounded s a d n → near (signed s a) d ≡ signed s n
-unfolding signed
-near-size true a d n h r =
-    sym (nearest-unique (negℤ (pos a)) d (negℤ (pos n)) h (record { low = simp whole (omega arith); high = simp whole (omega arith) }))
-near-size false a d n h r = sym (nearest-unique (pos a) d (pos n) h (record { low = simp whole (omega arith); high = simp whole (omega arith) }))
+-- v / d is no less than -limit - 1/2 and below limit + 1/2: what has a near in range
+pub record Ranged (v : ℤ) (d : ℕ) : Type 0 where
+  pub low : under (negℤ (pos limit)) d ≤ℤ (pos 2 *ℤ v)
+  pub high : (pos 2 *ℤ v) <ℤ over (pos limit) d
 
-natAbs-signed : (s : Bool) (n : ℕ) → natAbs (signed s n) ≡ n
-unfolding signed
-natAbs-signed true n = natAbs-neg (pos n)
-natAbs-signed false n = refl
+-- ---- sizes
 
--- ---- in range
+pub close-size : {v : ℤ} {d : ℕ} {n : ℤ} → 0 < d → Close v d n → Ranged v d → natAbs n ≤ limit + 1
+close-size {v} {d} {n} p h r = go v n (h .low) (h .high) (r .low) (r .high)
+  where
+    go : (v n : ℤ) → under n d ≤ℤ (pos 2 *ℤ v) → (pos 2 *ℤ v) ≤ℤ over n d → under (negℤ (pos limit)) d ≤ℤ (pos 2 *ℤ v) → (pos 2 *ℤ v) <ℤ over (pos limit) d → natAbs n ≤ limit + 1
+    go v n =
+        rw (split v, split n)
+        (simp whole (λ a b l h.
+        let x : posPart n < negPart n + (limit + 2) = lt-of-mul-lt-mul-left d (omega arith) in
+        let y : negPart n < posPart n + (limit + 2) = lt-of-mul-lt-mul-left d (omega arith) in
+        omega arith))
 
-pub limited : {s : Bool} {a d n : ℕ} → Rounded s a d n → 2 * a < (2 * limit + 1) * d + bit s → n ≤ limit
-limited {s} {a} {d} {n} r h = let k : n < limit + 1 = lt-of-mul-lt-mul-right d (omega arith) in omega arith
+nearest-size : {v : ℤ} {d : ℕ} {n : ℤ} → Nearest v d n → Ranged v d → natAbs n ≤ limit
+nearest-size {v} {d} {n} h r = go v n (h .low) (h .high) (r .low) (r .high)
+  where
+    go : (v n : ℤ) → under n d ≤ℤ (pos 2 *ℤ v) → (pos 2 *ℤ v) <ℤ over n d → under (negℤ (pos limit)) d ≤ℤ (pos 2 *ℤ v) → (pos 2 *ℤ v) <ℤ over (pos limit) d → natAbs n ≤ limit
+    go v n =
+        rw (split v, split n)
+        (simp whole (λ a b l h.
+        let x : posPart n < negPart n + (limit + 1) = lt-of-mul-lt-mul-left d (omega arith) in
+        let y : negPart n < posPart n + (limit + 1) = lt-of-mul-lt-mul-left d (omega arith) in
+        omega arith))
 
-pub inside : (s : Bool) (a d n : ℕ) → 0 < d → Rounded s a d n → n ≤ limit → some (signed s n) ≡ kept (some (near (signed s a) d))
+-- ---- what is kept, and what is refused
+
+pub inside : {v : ℤ} {d : ℕ} {n : ℤ} → 0 < d → Nearest v d n → Ranged v d → some n ≡ kept (some (near v d))
 unfolding kept inRange
-inside s a d n p r h = rw (near-size s a d n p r, natAbs-signed s n, le-leb n limit h)
+inside {v} {d} {n} p h r = rw (← nearest-unique v d n p h, le-leb (natAbs n) limit (nearest-size h r))
 
--- ---- out of range
-
-rounded : (s : Bool) (a d : ℕ) → 0 < d → Rounded s a d ((2 * a + d - bit s) / (2 * d))
-rounded s a d h =
-    let v = 2 * a + d - bit s in
-    let e : 2 * d * (v / (2 * d)) + v % (2 * d) ≡ v = div-add-mod v (2 * d) in
-    let l : v % (2 * d) < 2 * d = mod-lt v (omega arith) in
-    record { low = omega (arith, bit-most s); high = omega (arith, bit-most s) }
-
-pub outside : (s : Bool) (a d : ℕ) → 0 < d → (2 * limit + 1) * d + bit s ≤ 2 * a → none ≡ kept (some (near (signed s a) d))
+pub outside-low : (v : ℤ) (d : ℕ) → 0 < d → (pos 2 *ℤ v) <ℤ under (negℤ (pos limit)) d → none ≡ kept (some (near v d))
 unfolding kept inRange
-outside s a d p h =
-    let n = (2 * a + d - bit s) / (2 * d) in
-    let r = rounded s a d p in
-    let l : limit < n = lt-of-mul-lt-mul-right d (omega arith) in
-    rw (near-size s a d n p r, natAbs-signed s n, lt-leb n limit l)
+outside-low v d p h = rw (lt-leb (natAbs (near v d)) limit (go v (near v d) (near-nearest v d p .low) h))
+  where
+    go : (v n : ℤ) → under n d ≤ℤ (pos 2 *ℤ v) → (pos 2 *ℤ v) <ℤ under (negℤ (pos limit)) d → limit < natAbs n
+    go v n =
+        rw (split v, split n)
+        (simp whole (λ a h. let x : posPart n + limit < negPart n = lt-of-mul-lt-mul-left d (omega arith) in omega arith))
+
+pub outside-high : (v : ℤ) (d : ℕ) → 0 < d → over (pos limit) d ≤ℤ (pos 2 *ℤ v) → none ≡ kept (some (near v d))
+unfolding kept inRange
+outside-high v d p h = rw (lt-leb (natAbs (near v d)) limit (go v (near v d) (near-nearest v d p .high) h))
+  where
+    go : (v n : ℤ) → (pos 2 *ℤ v) <ℤ over n d → over (pos limit) d ≤ℤ (pos 2 *ℤ v) → limit < natAbs n
+    go v n =
+        rw (split v, split n)
+        (simp whole (λ a h. let x : negPart n + limit < posPart n = lt-of-mul-lt-mul-left d (omega arith) in omega arith))
+
+-- ---- which of n and n + 1
+
+pub nearest-over : {v : ℤ} {d : ℕ} {n : ℤ} → 0 < d → Close v d n → over n d ≤ℤ (pos 2 *ℤ v) → Nearest v d (n +ℤ pos 1)
+nearest-over {v} {d} {n} p h l = record { low = low v n l; high = high v n (h .high) }
+  where
+    low : (v n : ℤ) → over n d ≤ℤ (pos 2 *ℤ v) → under (n +ℤ pos 1) d ≤ℤ (pos 2 *ℤ v)
+    low v n = rw (split v, split n) (simp whole (omega arith))
+
+    high : (v n : ℤ) → (pos 2 *ℤ v) ≤ℤ over n d → (pos 2 *ℤ v) <ℤ over (n +ℤ pos 1) d
+    high v n = rw (split v, split n) (simp whole (omega arith))
+
+pub nearest-under : {v : ℤ} {d : ℕ} {n : ℤ} → Close v d n → (pos 2 *ℤ v) <ℤ over n d → Nearest v d n
+nearest-under h l = record { low = h .low; high = l }

@@ -1,2 +1,6 @@
 pub mod Fraction
+pub mod Middle
+pub mod Order
 pub mod Quotient
+pub mod Shift
+pub mod Unit

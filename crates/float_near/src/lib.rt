@@ -1,10 +1,7 @@
 // "The quotient becomes near of its exact value; a quotient that is no number or rounds out of range is refused": near of an f64.
 // Adding 0.5 to the quotient and cutting would be wrong at 0.49999999999999994, where the sum rounds to 1.
-// So the quotient is cut first, and compared with the middle between its two whole neighbours, which is exact.
+// So the quotient is rounded to a whole number first, and compared with the middle between that and the next one, which is exact.
 ghost use mathlib.Core.Path.{_≡_};
-ghost use mathlib.Core.Bool.{false};
-ghost use Prim.Native.Nat.{_+_, _*_};
-ghost use lib.Ieee.Exact.{HasValue};
 ghost use Rattle.rules.specs.Level.{nearFloat, kept};
 ghost use Rattle.float_near.specs.Settled.{settled};
 
@@ -14,34 +11,23 @@ pub enum Settled {
     Outside,
 }
 
-// k + 1/2, exactly.
-fn middle(k: u32) -> f64
-    ensures { λ r. ⌜ HasValue r false (2 * k + 1) 2 ⌝ }
-{
-    k as f64 + 0.5
-}
+// 1.5 × 2^52. From 2^52 to 2^53 the f64 numbers are the whole numbers, so a sum with a number of either sign below 2^51 in size rounds to a whole one.
+const SHIFT: f64 = 6755399441055744.0;
 
 // Refused is what lies below -4,000,000,000.5 or from 4,000,000,000.5 on, and a NaN, which is below nothing.
-// An exact half goes to the larger number: up in size above zero, down in size below.
+// r is q rounded to a whole number, an exact half to the even one. near takes it to the larger, so what went down goes up again.
+// No step depends on q's sign: a branch on it would be mispredicted half the time.
 pub fn near_float(q: f64) -> Settled
     ensures { λ r. ⌜ settled r ≡ kept (nearFloat q) ⌝ }
 {
     if q < -4000000000.5 {
         return Settled::Outside;
     }
-    if q < -0.5 {
-        let p = -q;
-        let k = std::num::truncating_f64_to_u64(p) as u32;
-        let n = if p <= middle(k) { k } else { k + 1 };
-        return Settled::Value(-(n as i64));
-    }
-    if q < 0.5 {
-        return Settled::Value(0);
-    }
     if q < 4000000000.5 {
-        let k = std::num::truncating_f64_to_u64(q) as u32;
-        let n = if middle(k) <= q { k + 1 } else { k };
-        return Settled::Value(n as i64);
+        let r = (q + SHIFT) - SHIFT;
+        let k = r as i64;
+        let n = if r + 0.5 <= q { k + 1 } else { k };
+        return Settled::Value(n);
     }
     Settled::Outside
 }
