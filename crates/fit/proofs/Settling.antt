@@ -18,7 +18,7 @@ use Rattle.rules.specs.Fit.{Shape, columns, rows, unitOf, pointsOf, valueAt, pr
 use Rattle.rules.specs.Laws.Checks.{AllInRange, rangeCheck-size, then-none}
 use Rattle.rules.specs.Laws.Fit.{listed-points, residualList, residuals-listed, length-residuals, level-size, next-residuals, length-level}
 use Rattle.level_fit.specs.Sums.{sumTable, settledAt, Fittable}
-use Rattle.level_fit.specs.Level.{values-table, refused-table}
+use Rattle.level_fit.specs.Level.{length-paired, values-table, refused-table}
 use Rattle.fit_steps.specs.Steps.{lowered, Lowerable}
 use Rattle.fit.specs.Scratch.{Ready, Before, Left, Runs, Rising, Settled, places}
 use Rattle.fit.proofs.Sizes.{Counted, counted, count-is, sized-before, unit-is, span, area-within, listed-many}
@@ -42,7 +42,7 @@ drop-over n r d h = ap (drop n) (sym (laid-front r d)) ∙ drop-laid 0 n r d (om
 
 length-sums : (U m n : ℕ) (points : List Point) → length (sumTable U m n points) ≡ 2 * controls m n
 unfolding sumTable
-length-sums U m n points = length-tabulate (2 * controls m n) _
+length-sums U m n points = length-paired (controls m n) _
 
 -- what is laid from 2 × most on leaves a running lattice
 pub runs-kept : {a : Shape} {points : List Point} {most k : ℕ} {whole : List ℤ} (n : ℕ) (r : List ℤ) → Runs a points most k whole
@@ -127,17 +127,17 @@ module _ {a : Shape} {most k : ℕ} {xs ys : List ℕ} {W F : ℕ} (ready : Read
             ∙ drop-over (2 * most) _ d (rw (length-sums (2 ^ (4 + a .h - k)) m n (pointsOf xs ys (lent (3 * most) (length xs) whole))) (omega (arith, cell-counts)))
 
         -- what `settle_all` finds
-        pub quotients : {found : Check} → firstOf ((m + 3) * (n + 3)) (λ q. require (present (settledAt sums q)) (quotient k)) ≡ found
+        pub quotients : {found : Check} → firstOf ((m + 3) * (n + 3)) (λ q. require (present (settledAt ((m + 3) * (n + 3)) sums q)) (quotient k)) ≡ found
             → quotientCheck a points k ≡ found
         unfolding quotientCheck valueAt
         quotients e =
             sym (refused-table (unitOf a k) (columns a k) (rows a k) (residuals a points k) d sums sums-are (quotient k))
-            ∙ ap (λ c. firstOf c (λ q. require (present (settledAt sums q)) (quotient k))) (sym same-count)
+            ∙ ap (λ c. firstOf c (λ q. require (present (settledAt c sums q)) (quotient k))) (sym same-count)
             ∙ e
 
         -- and writes
         pub level-laid : {part : List ℤ} → 3 * most ≤ length whole
-            → part ≡ over (tabulate ((m + 3) * (n + 3)) (λ q. orZero (settledAt sums q))) (lent (2 * most) ((m + 3) * (n + 3)) whole)
+            → part ≡ over (tabulate ((m + 3) * (n + 3)) (λ q. orZero (settledAt ((m + 3) * (n + 3)) sums q))) (lent (2 * most) ((m + 3) * (n + 3)) whole)
             → returned (2 * most) ((m + 3) * (n + 3)) part whole ≡ laid (2 * most) (level a points k) whole
         unfolding level levelOf valueAt
         level-laid {part} room e =
@@ -145,13 +145,13 @@ module _ {a : Shape} {most k : ℕ} {xs ys : List ℕ} {W F : ℕ} (ready : Read
             ∙ laid-part (2 * most) (2 * most + count - 2 * most) (tabulate count value) whole
             (rw (length-tabulate count value) (omega arith)) (omega (arith, cell-counts))
             ∙ ap (λ r. laid (2 * most) r whole)
-            (ap (λ c. tabulate c value) same-count ∙ values-table (unitOf a k) (columns a k) (rows a k) (residuals a points k) d sums sums-are)
+            (ap (λ c. tabulate c (λ q. orZero (settledAt c sums q))) same-count ∙ values-table (unitOf a k) (columns a k) (rows a k) (residuals a points k) d sums sums-are)
           where
             count : ℕ
             count = (m + 3) * (n + 3)
 
             value : ℕ → ℤ
-            value q = orZero (settledAt sums q)
+            value q = orZero (settledAt count sums q)
 
       pub placed : {now : List ℤ} → 3 * most + length xs ≤ length whole → now ≡ laid (2 * most) (level a points k) whole → Placed a points most k now
       placed {now} room e =

@@ -1,20 +1,21 @@
 // One level of the fit, in f64 to the bit: the points' weights are scattered into two sums a control value, and each pair of sums becomes a control value.
 ghost use mathlib.Core.Path.{_≡_};
+ghost use mathlib.Core.List.{[], _∷_};
 ghost use Prim.Native.Nat.{ℕ, _+_, _*_, _^_, _≤_, _<_};
 ghost use lib.Dec.{T};
 ghost use lib.IntN.{natAbs};
 ghost use lib.ListN.{length};
-ghost use Rattle.algebra.specs.Table.{tabulate, over};
+ghost use Rattle.algebra.specs.Table.{tabulate, over, laid};
 ghost use Rattle.rules.specs.Answers as answer;
 ghost use Rattle.rules.specs.Grid.{controls};
 ghost use Rattle.rules.specs.Level as rule;
 ghost use Rattle.rules.specs.Fit.{pointsOf, present, orZero};
 ghost use Rattle.float_near.specs.Settled.{settled};
 ghost use Rattle.answers.specs.Cause.{okCheck};
-ghost use Rattle.level_fit.specs.Sums.{blockOf, weightAt, sumsOf, coefficientOf, change, row, blockAdded, pointAdded, sumTable, settledAt, Fitting, Fittable};
+ghost use Rattle.level_fit.specs.Sums.{blockOf, weightAt, sumsOf, coefficientOf, pairAt, row, blockAdded, pointAdded, sumTable, settledAt, Fitting, Fittable};
 use float_near::Settled;
 
-// The two running sums of a control value.
+// The two running sums of a control value. In scratch the first sums of all control values stand before the second sums.
 pub struct Sums {
     pub first: f64,
     pub second: f64,
@@ -93,50 +94,60 @@ pub fn grown(sums: Sums, w: f64, z: f64, s: f64) -> Sums
     }
 }
 
-// One point's part in the control value at place q: its pair of sums is read, grown and put back.
-fn add_weight(sums: &mut [f64], q: usize, w: f64, z: f64, s: f64)
-    requires { ⌜ 2 * q + 1 < length (now sums) ⌝ }
-    ensures { λ _. ⌜ now (sums .exit) ≡ change (rule.grown w z s) (now (sums .entry)) q ⌝ }
+// One point's part in the control value at place q of count: its pair of sums, grown.
+fn grown_pair(sums: &[f64], q: usize, count: usize, w: f64, z: f64, s: f64) -> Sums
+    requires { ⌜ (q < count) × (2 * count ≤ length (now sums)) ⌝ }
+    ensures { λ r. ⌜ sumsOf r ≡ rule.grown w z s (pairAt count (now (sums .entry)) q) ⌝ }
 {
-    let i = 2 * q;
-    let j = i + 1;
-    let pair = grown(
+    grown(
         Sums {
-            first: sums[i],
-            second: sums[j],
+            first: sums[q],
+            second: sums[count + q],
         },
         w,
         z,
         s,
-    );
-    sums[i] = pair.first;
-    sums[j] = pair.second;
+    )
+}
+
+// Four entries, from place q on.
+fn put_four(sums: &mut [f64], q: usize, v0: f64, v1: f64, v2: f64, v3: f64)
+    requires { ⌜ q + 4 ≤ length (now sums) ⌝ }
+    ensures { λ _. ⌜ now (sums .exit) ≡ laid q (v0 ∷ v1 ∷ v2 ∷ v3 ∷ []) (now (sums .entry)) ⌝ }
+{
+    sums[q] = v0;
+    sums[q + 1] = v1;
+    sums[q + 2] = v2;
+    sums[q + 3] = v3;
 }
 
 // The four control values of one lattice row that a point's cell uses, from place q on: the weights of the block with second index l.
-fn add_row(sums: &mut [f64], q: usize, w: [[f64; 4]; 4], l: usize, z: f64, s: f64)
-    requires { ⌜ (2 * (q + 4) ≤ length (now sums)) × (l < 4) ⌝ }
-    ensures { λ _. ⌜ now (sums .exit) ≡ row (λ k. rule.grown (weightAt w k l) z s) 4 (now (sums .entry)) q ⌝ }
+// All four pairs are read before any is put back, and first sums stand apart from second ones, so that the compiler divides two at a time.
+fn add_row(sums: &mut [f64], q: usize, count: usize, w: [[f64; 4]; 4], l: usize, z: f64, s: f64)
+    requires { ⌜ (q + 4 ≤ count) × (2 * count ≤ length (now sums)) × (l < 4) ⌝ }
+    ensures { λ _. ⌜ now (sums .exit) ≡ row (λ k. rule.grown (weightAt w k l) z s) count (now (sums .entry)) q ⌝ }
 {
-    add_weight(sums, q, w[0][l], z, s);
-    add_weight(sums, q + 1, w[1][l], z, s);
-    add_weight(sums, q + 2, w[2][l], z, s);
-    add_weight(sums, q + 3, w[3][l], z, s);
+    let p0 = grown_pair(sums, q, count, w[0][l], z, s);
+    let p1 = grown_pair(sums, q + 1, count, w[1][l], z, s);
+    let p2 = grown_pair(sums, q + 2, count, w[2][l], z, s);
+    let p3 = grown_pair(sums, q + 3, count, w[3][l], z, s);
+    put_four(sums, q, p0.first, p1.first, p2.first, p3.first);
+    put_four(sums, count + q, p0.second, p1.second, p2.second, p3.second);
 }
 
-// A point's sixteen control values from place q on: the block's first index goes along the lattice row, the second from row to row.
-fn add_block(sums: &mut [f64], q: usize, width: usize, w: [[f64; 4]; 4], z: f64)
-    requires { ⌜ 2 * (q + width + width + width + 4) ≤ length (now sums) ⌝ }
-    ensures { λ _. ⌜ now (sums .exit) ≡ blockAdded (weightAt w) z width (now (sums .entry)) q ⌝ }
+// A point's sixteen control values from place q of count on: the block's first index goes along the lattice row, the second from row to row.
+fn add_block(sums: &mut [f64], q: usize, count: usize, width: usize, w: [[f64; 4]; 4], z: f64)
+    requires { ⌜ (q + width + width + width + 4 ≤ count) × (2 * count ≤ length (now sums)) ⌝ }
+    ensures { λ _. ⌜ now (sums .exit) ≡ blockAdded (weightAt w) z width count (now (sums .entry)) q ⌝ }
 {
     let s = squares(w);
     let q1 = q + width;
     let q2 = q1 + width;
     let q3 = q2 + width;
-    add_row(sums, q, w, 0, z, s);
-    add_row(sums, q1, w, 1, z, s);
-    add_row(sums, q2, w, 2, z, s);
-    add_row(sums, q3, w, 3, z, s);
+    add_row(sums, q, count, w, 0, z, s);
+    add_row(sums, q1, count, w, 1, z, s);
+    add_row(sums, q2, count, w, 2, z, s);
+    add_row(sums, q3, count, w, 3, z, s);
 }
 
 // One point's part in the sums.
@@ -148,9 +159,11 @@ fn add_point(sums: &mut [f64], m: usize, n: usize, e: u32, x: usize, y: usize, z
     let up = heights::locate(y, n, e);
     let w = block(axis(e, across.offset), axis(e, up.offset));
     let width = m + 3;
+    let count = width * (n + 3);
     add_block(
         sums,
         up.cell * width + across.cell,
+        count,
         width,
         w,
         std::num::nearest_i64_to_f64(z),
@@ -208,15 +221,14 @@ pub fn settle(c: Coefficient) -> Settled
 // The control values of count pairs of sums, or false where one is refused.
 pub fn settle_all(count: usize, sums: &[f64], level: &mut [i64]) -> bool
     requires { ⌜ (2 * count ≤ length (now sums)) × (count ≤ length (now level)) × (count ≤ 265_225) ⌝ }
-    ensures { λ ok. ⌜ ((r : answer.Refusal) → answer.firstOf count (λ q. answer.require (present (settledAt (now (sums .entry)) q)) r) ≡ okCheck ok r) ⌝ }
-    ensures { λ ok. ⌜ (T ok → now (level .exit) ≡ over (tabulate count (λ q. orZero (settledAt (now (sums .entry)) q))) (now (level .entry))) ⌝ }
+    ensures { λ ok. ⌜ ((r : answer.Refusal) → answer.firstOf count (λ q. answer.require (present (settledAt count (now (sums .entry)) q)) r) ≡ okCheck ok r) ⌝ }
+    ensures { λ ok. ⌜ (T ok → now (level .exit) ≡ over (tabulate count (λ q. orZero (settledAt count (now (sums .entry)) q))) (now (level .entry))) ⌝ }
 {
     let mut q = 0;
     while q < count {
-        let i = 2 * q;
         match settle(quotient_of(Sums {
-            first: sums[i],
-            second: sums[i + 1],
+            first: sums[q],
+            second: sums[count + q],
         })) {
             Settled::Value(z) => {
                 level[q] = z;

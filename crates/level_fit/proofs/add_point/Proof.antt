@@ -43,11 +43,11 @@ module _ {m n e x y long : ℕ} (f : Fitting m n e x y long) {across up : Spot} 
 
     added : (b c : List Float) (w : List (List Float)) (z : Float) (sums : List Float)
         → b ≡ tabulate 4 (rule.basis (2 ^ e) (across .offset)) → c ≡ tabulate 4 (rule.basis (2 ^ e) (up .offset)) → w ≡ blockOf b c → z ≡ rule.float v
-        → blockAdded (weightAt w) z (m + 3) sums (up .cell * (m + 3) + across .cell) ≡ pointAdded (2 ^ e) m n point sums
+        → blockAdded (weightAt w) z (m + 3) (controls m n) sums (up .cell * (m + 3) + across .cell) ≡ pointAdded (2 ^ e) m n point sums
     unfolding pointAdded rule.weight
     added b c w z sums eb ec ew ez =
         rw (ew, eb, ec, ez, place-is, ax .offset-is, ay .offset-is)
-        (block-same (entry-of-block (rule.basis (2 ^ e) (offset (2 ^ e) m x)) (rule.basis (2 ^ e) (offset (2 ^ e) n y))) (rule.float v) (m + 3) sums (placeOf (2 ^ e) m n point))
+        (block-same (entry-of-block (rule.basis (2 ^ e) (offset (2 ^ e) m x)) (rule.basis (2 ^ e) (offset (2 ^ e) n y))) (rule.float v) (m + 3) (controls m n) sums (placeOf (2 ^ e) m n point))
 
 -- ---- the needs
 
@@ -75,6 +75,12 @@ axis-requires c κs = omega (arith, offsets c)
 axis-requires-2 : tie.Need-axis-requires-2
 axis-requires-2 c κs = omega (arith, offsets (c .before))
 
+mul-count : tie.Need-mul-count
+unfolding controls
+mul-count c =
+    let s = start (c .before .before .before) in
+    record { fits = omega (arith, controls-most (s .args .m) (s .args .n) (s .pre .columns-most) (s .pre .rows-most)) }
+
 mul-add-block : tie.Need-mul-add-block
 mul-add-block c = let l = c .before .before .before .before .before in record { fits = omega (arith, fits l) }
 
@@ -82,11 +88,13 @@ add-add-block : tie.Need-add-add-block
 add-add-block c = record { fits = fits (c .before .before .before .before .before .before) }
 
 add-block-requires : tie.Need-add-block-requires
+unfolding controls
 add-block-requires c κs =
     let l = c .before .before .before .before .before .before .before in
     omega (arith, place-room (start l .pre) (l .before .locate .ensures) (l .locate2 .ensures) (start l .args .z), start l .pre .room)
 
 returns : tie.Need-returns
+unfolding controls
 returns c =
     let d = c .before .before in
     let z = d .before in
@@ -107,6 +115,8 @@ add-point-spec =
     axis-requires-2
     (λ c κs. search needs)
     (λ c. search needs)
+    (λ c. search needs)
+    mul-count
     mul-add-block
     add-add-block
     (λ c κs. search needs)
