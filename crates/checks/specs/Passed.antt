@@ -8,15 +8,16 @@ use native.Mathlib.Nat.{mul-le-mul}
 use native.Mathlib.Omega.{arith}
 use lib.IntN.{ℤ}
 use lib.Pow.{pow-mono}
+use mir.Facts.{and-yes}
 use Rattle.rules.specs.Grid.{within, controls}
 use Rattle.rules.specs.Answers.{cells, range}
 use Rattle.rules.specs.Calls.{cellsCheck, latticeCheck}
-use Rattle.rules.specs.Laws.Checks.{required, both, within-bounds, AllInRange, rangeCheck-size}
+use Rattle.rules.specs.Laws.Checks.{required, within-bounds, AllInRange, rangeCheck-size}
 
 pub cells-passed : (most m n : ℕ) → cellsCheck most m n ≡ none → (1 ≤ m) × (m ≤ most) × (1 ≤ n) × (n ≤ most)
 unfolding cellsCheck
 cells-passed most m n e =
-    let p = both (within 1 most m) (within 1 most n) (required (within 1 most m && within 1 most n) cells e) in
+    let p = and-yes (within 1 most m) (within 1 most n) (required (within 1 most m && within 1 most n) cells e) in
     let x = within-bounds 1 most m (p .0) in
     let y = within-bounds 1 most n (p .1) in
     (x .0, x .1, y .0, y .1)

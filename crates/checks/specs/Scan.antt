@@ -10,9 +10,10 @@ use lib.Bits.{bitOr, or-lt, or-add-and, and-le-l, and-le-r}
 use lib.Dec.{T, leb, ltb}
 use lib.IntN.{ℤ, pos, natAbs}
 use lib.ListN.{getD}
+use mir.Facts.{and-yes}
 use Rattle.rules.specs.Grid.{limit, inRange}
 use Rattle.rules.specs.Answers.{rangeCheck, firstOf}
-use Rattle.rules.specs.Laws.Checks.{NoneOut, noneOut-more, both}
+use Rattle.rules.specs.Laws.Checks.{NoneOut, noneOut-more}
 
 -- what a size in range can grow by below 2^63
 abbrev pub headroom : ℕ
@@ -61,5 +62,5 @@ pub allIn-none : (n : ℕ) (values : List ℤ) → T (allIn n values) → NoneOu
 unfolding allIn rangeCheck firstOf
 allIn-none zero values t f = refl
 allIn-none (suc n) values t f =
-    let p = both (allIn n values) (inRange (getD values n (pos 0))) t in
+    let p = and-yes (allIn n values) (inRange (getD values n (pos 0))) t in
     ap (λ k. rangeCheck k values f) (sym (add-one n)) ∙ noneOut-more n values (allIn-none n values (p .0)) (p .1) f

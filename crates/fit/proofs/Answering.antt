@@ -9,13 +9,14 @@ use native.Mathlib.Omega.{arith}
 use lib.Dec.{leb, leb→le}
 use lib.IntN.{ℤ, pos}
 use lib.ListN.{length, drop, take, replicate, length-replicate}
+use mir.Facts.{and-yes}
 use Rattle.algebra.specs.Table.{over, area, tabulate, area-part, take-area, over-past, tabulate-replicate}
 use Rattle.rules.specs.Answers.{Refusal, inLevels, short, Check, require, _then_, Answer, accepted, refused, answer, left, quotient, residual, cells, levels, lists, position, range}
 use Rattle.rules.specs.Grid.{cellsAt, inside}
 use Rattle.rules.specs.Level.{Point, zero64}
 use Rattle.rules.specs.Fit.{Shape, columns, rows, pointsOf, running, quotientCheck, residualCheck, sumCheck, levelCheck, levelsCheck}
 use Rattle.rules.specs.Calls.{Cells, Lent, K, cellsCheck, levelsCountCheck, listsCheck, lentCheck, pointsCheck, fitCheck, fitAnswer, fitLeaves, cleared}
-use Rattle.rules.specs.Laws.Checks.{Only, only-require, only-then, only-firstOf, only-rangeCheck, required, both, AllInRange, then-assoc}
+use Rattle.rules.specs.Laws.Checks.{Only, only-require, only-then, only-firstOf, only-rangeCheck, required, AllInRange, then-assoc}
 use Rattle.rules.specs.Laws.Fit.{residualList}
 use Rattle.survey.specs.Passed.{Bounded, points-passed, cellsAt-most}
 use Rattle.fit.specs.Fitted.{levelsAnswer}
@@ -191,9 +192,9 @@ pub record Roomy (p most lattice errors whole floats : ℕ) : Type 0 where
 pub roomy : (p most lattice errors whole floats : ℕ) → require (leb most lattice && leb p errors && leb (3 * most + p) whole && leb (2 * most) floats) short ≡ none
     → Roomy p most lattice errors whole floats
 roomy p most lattice errors whole floats e =
-    let s = both (leb most lattice && leb p errors && leb (3 * most + p) whole) (leb (2 * most) floats) (required _ short e) in
-    let r = both (leb most lattice && leb p errors) (leb (3 * most + p) whole) (s .0) in
-    let q = both (leb most lattice) (leb p errors) (r .0) in
+    let s = and-yes (leb most lattice && leb p errors && leb (3 * most + p) whole) (leb (2 * most) floats) (required _ short e) in
+    let r = and-yes (leb most lattice && leb p errors) (leb (3 * most + p) whole) (s .0) in
+    let q = and-yes (leb most lattice) (leb p errors) (r .0) in
     record {
       for-lattice = leb→le most lattice (q .0);
       for-residual = leb→le p errors (q .1);

@@ -8,11 +8,12 @@ use native.Mathlib.Omega.{arith}
 use lib.Dec.{T, leb, eqb, leb→le}
 use lib.IntN.{ℤ, pos, natAbs, _-ℤ_, _*ℤ_}
 use lib.ListN.{length}
+use mir.Facts.{and-yes}
 use Rattle.rules.specs.Grid.{limit, inside, controls, control}
 use Rattle.rules.specs.Surface.{surface, height}
 use Rattle.rules.specs.Answers.{Check, require, short, position, unit, _then_, accepted}
 use Rattle.rules.specs.Calls.{cellsCheck, unitCheck, latticeCheck, heightCheck, heightAnswer}
-use Rattle.rules.specs.Laws.Checks.{required, both, then-first, then-rest, answer-none, answer-value}
+use Rattle.rules.specs.Laws.Checks.{required, then-first, then-rest, answer-none, answer-value}
 use Rattle.rules.specs.Laws.Surface.{Inside, Bounded, full, control-within, height-within, height-distance}
 use Rattle.checks.specs.Passed.{cells-passed, lattice-passed}
 use Rattle.heights.specs.Reading.{told}
@@ -40,7 +41,7 @@ unfolding heightCheck inside
 height-passed m n U l x y h =
     let p = each (cellsCheck 512 m n) (unitCheck U) (require (leb (controls m n) (length l)) short) (latticeCheck m n l) (require (inside U m x && inside U n y) (position 0)) h in
     let sides = cells-passed 512 m n (p .0) in
-    let at = both (inside U m x) (inside U n y) (required (inside U m x && inside U n y) (position 0) (p .4)) in
+    let at = and-yes (inside U m x) (inside U n y) (required (inside U m x && inside U n y) (position 0) (p .4)) in
     let on : Inside U m n x y = record { unit = unit-positive U (p .1); across = sides .0; up = sides .2; x-inside = leb→le x (U * m) (at .0); y-inside = leb→le y (U * n) (at .1) } in
     (on, control-within m n l (lattice-passed m n l (p .3)))
 

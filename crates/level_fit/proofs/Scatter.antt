@@ -4,20 +4,21 @@ use mathlib.Core.Path.{_≡_, refl, sym, ap, _∙_, subst}
 use mathlib.Core.Logic.{_≢_, inl, inr}
 use mathlib.Core.Bool.{Bool, true, false, _&&_, cond}
 use mathlib.Core.List.{List, [], _∷_}
-use native.Mathlib.Nat.{add-mul, mul-le-mul, mul-le-mul-right, not-suc-le-zero, div-add-mod', mod-lt}
+use native.Mathlib.Nat.{add-mul, mul-le-mul-right, not-suc-le-zero, div-add-mod', mod-lt}
 use native.Mathlib.Decide.{ℕ-discrete, decLt}
 use native.Mathlib.Omega.{arith}
 use lib.Dec.{T, leb, ltb, leb→le, ltb→lt, le→leb, lt→ltb}
 use lib.Ieee.{Float, nan}
 use lib.ListN.{length, getD}
 use lib.Seq.{ext-getD}
+use mir.Facts.{and-yes, yes-and}
 use Rattle.algebra.specs.Table.{Apart, tabulate, over, laid, length-tabulate, getD-tabulate, tabulate-add, length-over, getD-past, length-laid, getD-laid, getD-apart}
 use Rattle.rules.specs.Grid.{controls}
 use Rattle.rules.specs.Surface.{cell}
 use Rattle.rules.specs.Level as rule
 use Rattle.rules.specs.Laws.Basis.{cell-below}
-use Rattle.rules.specs.Laws.Checks.{both}
 use Rattle.rules.specs.Laws.Surface.{place-below}
+use Rattle.checks.specs.Passed.{controls-fit}
 use Rattle.level_fit.specs.Level.{pair-path, length-paired, pair-over, pair-table}
 use Rattle.level_fit.specs.Sums.{pairAt, row, rows, pointAdded, pointsAdded, paired, sumTable}
 
@@ -149,22 +150,17 @@ same-place width t s t' s' h h' e = let equal = go (decLt t t') (decLt t' t) in 
 
 uses-bounds : (c s : ℕ) → T (rule.uses c s) → (c ≤ s) × (s < c + 4)
 unfolding rule.uses
-uses-bounds c s h = let p = both (leb c s) (ltb s (c + 4)) h in (leb→le c s (p .0), ltb→lt s (c + 4) (p .1))
-
-and-true : (a b : Bool) → T a → T b → T (a && b)
-and-true true true h k = tt
-and-true true false h k = absurd k
-and-true false b h k = absurd h
+uses-bounds c s h = let p = and-yes (leb c s) (ltb s (c + 4)) h in (leb→le c s (p .0), ltb→lt s (c + 4) (p .1))
 
 uses-true : (c k : ℕ) → k < 4 → T (rule.uses c (c + k))
 unfolding rule.uses
-uses-true c k h = and-true (leb c (c + k)) (ltb (c + k) (c + 4)) (le→leb c (c + k) (omega arith)) (lt→ltb (c + k) (c + 4) (omega arith))
+uses-true c k h = yes-and (leb c (c + k)) (ltb (c + k) (c + 4)) (le→leb c (c + k) (omega arith)) (lt→ltb (c + k) (c + 4) (omega arith))
 
 -- ---- one point
 
 pub controls-most : (m n : ℕ) → m ≤ 512 → n ≤ 512 → controls m n ≤ 265_225
 unfolding controls
-controls-most m n h k = mul-le-mul {n₁ = m + 3} {m₁ = n + 3} {n₂ = 515} {m₂ = 515} (omega arith) (omega arith)
+controls-most m n h k = controls-fit m n h k
 
 -- where the first of a point's control values stands
 abbrev pub placeOf : ℕ → ℕ → ℕ → rule.Point → ℕ
@@ -203,13 +199,13 @@ module _ (U m n : ℕ) (p : rule.Point) (across : 0 < m) (up : 0 < n) where
         apart e k l i j g =
             let fits : c + k < m + 3 = omega (arith, cell-below U m (p .x) across) in
             let same = same-place (m + 3) t s (r + l) (c + k) h fits (omega (arith, add-mul r l (m + 3))) in
-            subst T e (and-true (rule.uses c s) (rule.uses r t) (rw (same .1) (uses-true c k i)) (rw (same .0) (uses-true r l j)))
+            subst T e (yes-and (rule.uses c s) (rule.uses r t) (rw (same .1) (uses-true c k i)) (rw (same .0) (uses-true r l j)))
 
         go : (b : Bool) → rule.uses c s && rule.uses r t ≡ b
             → pairAt (controls m n) (pointAdded U m n p sums) (t * (m + 3) + s)
             ≡ cond b (f (s - c) (t - r) (pairAt (controls m n) sums (t * (m + 3) + s))) (pairAt (controls m n) sums (t * (m + 3) + s))
         go true e =
-            let b = both (rule.uses c s) (rule.uses r t) (subst T (sym e) tt) in
+            let b = and-yes (rule.uses c s) (rule.uses r t) (subst T (sym e) tt) in
             let x = uses-bounds c s (b .0) in
             let y = uses-bounds r t (b .1) in
             let rest : r * (m + 3) + (t - r) * (m + 3) ≡ t * (m + 3) = sym (add-mul r (t - r) (m + 3)) ∙ ap (λ a. a * (m + 3)) (omega arith) in

@@ -7,8 +7,9 @@ use native.Mathlib.Nat.{mul-pos, mul-zero, zero-mod, zero-mul, mod-eq-of-lt, mod
 use native.Mathlib.Omega.{arith}
 use borrow.Author.Tests.{le-leb, lt-leb}
 use lib.Dec.{leb, leb→le}
+use mir.Facts.{and-yes}
 use Rattle.rules.specs.Answers.{Check, require, position, firstOf}
-use Rattle.rules.specs.Laws.Checks.{required, both, firstOf-none, firstOf-all, firstOf-at}
+use Rattle.rules.specs.Laws.Checks.{required, firstOf-none, firstOf-all, firstOf-at}
 use Rattle.raster.specs.Sampled.{nodeCheck, nodesCheck, NodesInside}
 
 -- ---- steps of one axis: as many as fit between the first position and the last
@@ -112,5 +113,5 @@ nodes-inside {U} m n e x0 y0 step columns rows u h =
     each q l =
         let a = leb (x0 + step * (q % columns)) (U * m) in
         let b = leb (y0 + step * (q / columns)) (U * n) in
-        let p = both a b (required (a && b) (position q) (firstOf-none (columns * rows) (nodeCheck (U * m) (U * n) x0 y0 step columns) h q l)) in
+        let p = and-yes a b (required (a && b) (position q) (firstOf-none (columns * rows) (nodeCheck (U * m) (U * n) x0 y0 step columns) h q l)) in
         (leb→le (x0 + step * (q % columns)) (U * m) (p .0), leb→le (y0 + step * (q / columns)) (U * n) (p .1))

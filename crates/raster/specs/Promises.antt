@@ -7,12 +7,13 @@ use Prim.Native.Nat.{ℕ, _*_, _≤_, _<_}
 use lib.Dec.{leb}
 use lib.IntN.{ℤ, pos, natAbs}
 use lib.ListN.{length, getD}
+use mir.Facts.{and-yes}
 use Rattle.algebra.specs.Table.{tabulate, length-tabulate, getD-tabulate, getD-over}
 use Rattle.rules.specs.Grid.{limit, inside, controls, control}
 use Rattle.rules.specs.Surface.{height}
 use Rattle.rules.specs.Answers.{Check, require, size, short, position, firstOf, _then_, accepted, left}
 use Rattle.rules.specs.Calls.{Nodes, cellsCheck, unitCheck, latticeCheck, nodeX, nodeY, heightCheck, rasterCheck, rasterAnswer, rasterLeaves}
-use Rattle.rules.specs.Laws.Checks.{required, require-met, both, then-first, then-rest, firstOf-none, answer-none, answer-value}
+use Rattle.rules.specs.Laws.Checks.{required, require-met, then-first, then-rest, firstOf-none, answer-none, answer-value}
 use Rattle.rules.specs.Laws.Surface.{height-within}
 use Rattle.heights.specs.Promises.{height-passed}
 
@@ -37,7 +38,7 @@ module _ (m n U : ℕ) (l : List ℤ) (g : Nodes) (d : List ℤ) where
       let room = leb (g .across * g .down) (length d) in
       let p = each (cellsCheck 512 m n) (unitCheck U) sized (require (long && room) short) (latticeCheck m n l) (firstOf (g .across * g .down) at) h in
       let on = inside U m (nodeX g q) && inside U n (nodeY g q) in
-      rw (p .0, p .1, require-met long short (both long room (required (long && room) short (p .2)) .0), p .3)
+      rw (p .0, p .1, require-met long short (and-yes long room (required (long && room) short (p .2)) .0), p .3)
       (require-met on (position 0) (required on (position q) (firstOf-none (g .across * g .down) at (p .4) q k)))
 
   module _ (q : ℕ) (rules : rasterAnswer m n U l g d ≡ accepted q) where

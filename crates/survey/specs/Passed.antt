@@ -9,10 +9,11 @@ use lib.Dec.{leb, eqb, leb→le, eqb→eq, lit<}
 use lib.IntN.{ℤ, pos, natAbs}
 use lib.ListN.{length, getD}
 use lib.Pow.{pow-mono}
+use mir.Facts.{and-yes}
 use Rattle.rules.specs.Grid.{limit, inRange, inside, cellsAt}
 use Rattle.rules.specs.Answers.{Check, require, _then_, levels, lists, position, range}
 use Rattle.rules.specs.Calls.{cellsCheck, levelsCountCheck, listsCheck, pointsCheck}
-use Rattle.rules.specs.Laws.Checks.{required, both, then-first, then-rest, firstOf-none, inRange-size}
+use Rattle.rules.specs.Laws.Checks.{required, then-first, then-rest, firstOf-none, inRange-size}
 use Rattle.checks.specs.Passed.{cells-passed}
 
 -- ---- cell counts, levels and lists
@@ -27,8 +28,8 @@ lists-passed xs ys zs e =
     let y = eqb (length xs) (length ys) in
     let z = eqb (length xs) (length zs) in
     let few = leb (length xs) 65_535 in
-    let p = both (y && z) few (required (y && z && few) lists e) in
-    let q = both y z (p .0) in
+    let p = and-yes (y && z) few (required (y && z && few) lists e) in
+    let q = and-yes y z (p .0) in
     (sym (eqb→eq (length xs) (length ys) (q .0)), sym (eqb→eq (length xs) (length zs) (q .1)), leb→le (length xs) 65_535 (p .1))
 
 -- what `head` has shown
@@ -72,7 +73,7 @@ points-passed U m n xs ys zs e i l =
     let y = inside U n (getD ys i 0) in
     let z = inRange (getD zs i (pos 0)) in
     let here = firstOf-none (length xs) (pointCheck U m n xs ys zs) e i l in
-    let p = both x y (required (x && y) (position i) (then-first (require (x && y) (position i)) (require z (range i)) here)) in (
+    let p = and-yes x y (required (x && y) (position i) (then-first (require (x && y) (position i)) (require z (range i)) here)) in (
       leb→le (getD xs i 0) (U * m) (p .0),
       leb→le (getD ys i 0) (U * n) (p .1),
       inRange-size (getD zs i (pos 0)) (required z (range i) (then-rest (require (x && y) (position i)) (require z (range i)) here)),

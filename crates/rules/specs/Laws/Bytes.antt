@@ -16,11 +16,12 @@ use lib.ListN.{length, getD, take, drop, length-append, length-take, length-drop
 use lib.Seq.{take-nil, drop-drop, getD-drop, drop-length, drop-append-seam, getD-take, take-at, length-take-le}
 use lib.Signed.{mag}
 use lib.Ieee.Fits.{and-i}
+use mir.Facts.{and-yes}
 use Rattle.algebra.specs.Table.{joined}
 use Rattle.rules.specs.Grid.{limit}
 use Rattle.rules.specs.Answers.{mark}
 use Rattle.rules.specs.Bytes.{bytesOf, numberOf, complement, uncomplement, numberAt, valueBytes, valueAt, same, recordCheck}
-use Rattle.rules.specs.Laws.Checks.{required, require-met, both, then-first, then-rest, then-none}
+use Rattle.rules.specs.Laws.Checks.{required, require-met, then-first, then-rest, then-none}
 
 -- every entry is a byte
 abbrev pub AreBytes : List ℕ → Type 0
@@ -256,7 +257,7 @@ same-equal [] [] t = refl
 same-equal [] (y ∷ ys) t = absurd t
 same-equal (x ∷ xs) [] t = absurd t
 same-equal (x ∷ xs) (y ∷ ys) t =
-    let p = both (eqb x y) (same xs ys) t in
+    let p = and-yes (eqb x y) (same xs ys) t in
     ap₂ (λ z zs. z ∷ zs) (eqb→eq x y (p .0)) (same-equal xs ys (p .1))
 
 same-self : (xs : List ℕ) → T (same xs xs)

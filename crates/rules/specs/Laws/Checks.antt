@@ -11,6 +11,7 @@ use native.Mathlib.Omega.{arith}
 use lib.Dec.{T, leb, leb→le, le→leb}
 use lib.IntN.{ℤ, pos, natAbs}
 use lib.ListN.{getD}
+use mir.Facts.{and-yes}
 use Rattle.rules.specs.Grid.{limit, inRange, within}
 use Rattle.rules.specs.Answers.{Refusal, Check, require, _then_, firstOf, rangeCheck, Answer, accepted, refused, answer}
 
@@ -29,15 +30,9 @@ unfolding require
 require-met true r t = refl
 require-met false r t = absurd t
 
--- both of two tests passed
-pub both : (a b : Bool) → T (a && b) → T a × T b
-both true true t = (tt, tt)
-both true false t = absurd t
-both false b t = absurd t
-
 pub within-bounds : (low high v : ℕ) → T (within low high v) → (low ≤ v) × (v ≤ high)
 unfolding within
-within-bounds low high v t = let p = both (leb low v) (leb v high) t in (leb→le low v (p .0), leb→le v high (p .1))
+within-bounds low high v t = let p = and-yes (leb low v) (leb v high) t in (leb→le low v (p .0), leb→le v high (p .1))
 
 -- ---- one check after another
 

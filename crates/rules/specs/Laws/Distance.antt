@@ -10,7 +10,7 @@ use lib.Dec.{T, leb, leb→le, le→leb}
 use lib.IntN.{ℤ, pos, natAbs, _+ℤ_, _-ℤ_, _*ℤ_}
 use lib.ListN.{length, drop, length-append}
 use lib.Pow.{pow-add}
-use mir.Facts.{yes-and}
+use mir.Facts.{and-yes, yes-and}
 use Rattle.algebra.specs.Solver.{var, con, _⊕_, _⊖_, _⊗_, solve}
 use Rattle.algebra.specs.Size.{natAbs-sum, natAbs-product}
 use Rattle.algebra.specs.Table.{over, getD-over}
@@ -23,7 +23,7 @@ use Rattle.rules.specs.Fit.{theD, levelSurface, theT, theV}
 use Rattle.rules.specs.Answers.{require, accepted, answer, left}
 use Rattle.rules.specs.Calls.{Cells, Lent, cellsCheck, unitCheck, levelsCountCheck, latticeCheck, heightCheck, heightAnswer, fitCheck, fitAnswer, fitLeaves}
 use Rattle.rules.specs.Laws.Rounding.{near-exact}
-use Rattle.rules.specs.Laws.Checks.{required, require-met, both, within-bounds, then-first, then-rest, then-none, firstOf-none, answer-none, answer-value}
+use Rattle.rules.specs.Laws.Checks.{required, require-met, within-bounds, then-first, then-rest, then-none, firstOf-none, answer-none, answer-value}
 use Rattle.rules.specs.Laws.Checks.{AllInRange, rangeCheck-size, size-rangeCheck}
 use Rattle.rules.specs.Laws.Surface.{Inside, full, surface-reads, height-distance, control-store, control-over}
 use Rattle.rules.specs.Laws.Fit.{length-running}
@@ -94,7 +94,7 @@ record Counted (most m n : ℕ) : Type 0 where
 counted : (most m n : ℕ) → cellsCheck most m n ≡ none → Counted most m n
 unfolding cellsCheck
 counted most m n e =
-    let p = both (within 1 most m) (within 1 most n) (required _ _ e) in
+    let p = and-yes (within 1 most m) (within 1 most n) (required _ _ e) in
     record { across = within-bounds 1 most m (p .0); up = within-bounds 1 most n (p .1) }
 
 counted-passes : (most m n : ℕ) → Counted most m n → cellsCheck most m n ≡ none

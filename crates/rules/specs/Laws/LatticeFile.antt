@@ -12,6 +12,7 @@ use lib.Dec.{T, leb, leb→le, le→leb, eqb→eq, eqb-refl}
 use lib.IntN.{ℤ, pos, natAbs}
 use lib.Ieee.Fits.{and-i}
 use lib.ListN.{length, getD, take, length-append}
+use mir.Facts.{and-yes}
 use Rattle.algebra.specs.Table.{joined, over, tabulate-same, tabulate-take, getD-tabulate}
 use Rattle.rules.specs.Grid.{Lattice, limit, inRange, within, controls, control, store}
 use Rattle.rules.specs.Answers.{cells, short, answer, accepted, left}
@@ -19,7 +20,7 @@ use Rattle.rules.specs.Bytes.{bytesOf, valueBytes, valueAt}
 use Rattle.rules.specs.LatticeFile.{LH, LR, LE, rowRecord, latticeFile, rowLength, rowStart, latticeFileLength, fileM, fileN}
 use Rattle.rules.specs.LatticeFile.{headCheck, rowCheck, endCheck, latticeFileCheck, fileLattice}
 use Rattle.rules.specs.LatticeFile.{readLatticeCheck, readLatticeAnswer, readLatticeLeaves, writeLatticeCheck}
-use Rattle.rules.specs.Laws.Checks.{required, require-met, both, rangeCheck-size, size-rangeCheck, within-bounds, then-first, then-rest, then-none, firstOf-none, firstOf-all, AllInRange, inRange-size, size-inRange}
+use Rattle.rules.specs.Laws.Checks.{required, require-met, rangeCheck-size, size-rangeCheck, within-bounds, then-first, then-rest, then-none, firstOf-none, firstOf-all, AllInRange, inRange-size, size-inRange}
 use Rattle.rules.specs.Laws.Bytes.{AreBytes, Spans, spans-whole, spans-file, spans-join, spans-split, spans-moved, spans-joined, spans-part, spans-fits, length-joined}
 use Rattle.rules.specs.Laws.Bytes.{length-bytesOf, length-valueBytes, number-read, number-spans, value-read, value-spans, record-fits, record-mark, record-met}
 use Rattle.rules.specs.Calls.{cellsCheck, latticeCheck}
@@ -310,8 +311,8 @@ writer-accepts m n lattice output =
     let c = leb (controls m n) (length lattice) in
     let d = leb (latticeFileLength m n) (length output) in (
       λ e.
-          let sides = both a b (required (a && b) cells (then-first _ _ e)) in
-          let long = both c d (required (c && d) short (then-first _ _ (then-rest _ _ e))) in
+          let sides = and-yes a b (required (a && b) cells (then-first _ _ e)) in
+          let long = and-yes c d (required (c && d) short (then-first _ _ (then-rest _ _ e))) in
           (record { across = sides .0; up = sides .1; stored = leb→le _ _ (long .0); range = rangeCheck-size _ _ _ (then-rest _ _ (then-rest _ _ e)) }, leb→le _ _ (long .1)),
       λ p.
           then-none _ _ (require-met (a && b) cells (and-i a b (p .0 .across) (p .0 .up)))

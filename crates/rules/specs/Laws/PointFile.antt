@@ -13,6 +13,7 @@ use lib.IntN.{ℤ, pos}
 use lib.Ieee.Fits.{and-i}
 use lib.ListN.{length, getD, length-append}
 use lib.Seq.{take-length}
+use mir.Facts.{and-yes}
 use Rattle.algebra.specs.Table.{tabulate, joined, over, length-tabulate, getD-tabulate, tabulate-same, tabulate-take}
 use Rattle.rules.specs.Grid.{within, inside, cellsAt}
 use Rattle.rules.specs.Fit.{Shape, columns, rows}
@@ -22,7 +23,7 @@ use Rattle.rules.specs.Calls.{cellsCheck, levelsCountCheck, listsCheck, 
 use Rattle.rules.specs.PointFile.{PH, PT, pointRecord, pointFile, pointStart, pointFileLength, fileShape, filePoints, fileX, fileY, fileZ}
 use Rattle.rules.specs.PointFile.{headCheck, pointCheck, pointFileCheck}
 use Rattle.rules.specs.PointFile.{readPointsCheck, readPointsAnswer, readPointsLeaves, writePointsCheck}
-use Rattle.rules.specs.Laws.Checks.{required, require-met, both, within-bounds, then-first, then-rest, then-none, firstOf-none, firstOf-all, AllInRange, inRange-size, size-inRange}
+use Rattle.rules.specs.Laws.Checks.{required, require-met, within-bounds, then-first, then-rest, then-none, firstOf-none, firstOf-all, AllInRange, inRange-size, size-inRange}
 use Rattle.rules.specs.Laws.Bytes.{AreBytes, Spans, spans-whole, spans-file, spans-join, spans-split, spans-moved, spans-joined, spans-part, spans-fits, length-joined}
 use Rattle.rules.specs.Laws.Bytes.{length-bytesOf, length-valueBytes, number-read, number-spans, value-read, value-spans, number-below, record-fits, record-mark, record-met}
 
@@ -349,12 +350,12 @@ writer-accepts a xs ys zs output = (asks, accepts)
         let e₁ = then-rest _ _ e in
         let e₂ = then-rest _ _ e₁ in
         let e₃ = then-rest _ _ e₂ in
-        let sides = both (within 1 16 (a .m0)) (within 1 16 (a .n0)) (required _ _ (then-first _ _ e)) in
-        let counts = both (eqb p (length ys) && eqb p (length zs)) (leb p 65_535) (required _ _ (then-first _ _ e₂)) in
-        let equal = both (eqb p (length ys)) (eqb p (length zs)) (counts .0) in
+        let sides = and-yes (within 1 16 (a .m0)) (within 1 16 (a .n0)) (required _ _ (then-first _ _ e)) in
+        let counts = and-yes (eqb p (length ys) && eqb p (length zs)) (leb p 65_535) (required _ _ (then-first _ _ e₂)) in
+        let equal = and-yes (eqb p (length ys)) (eqb p (length zs)) (counts .0) in
         let point = firstOf-none p _ (then-rest _ _ e₃) in
         let placed : (i : ℕ) → i < p → T (inside-x i) × T (inside-y i) =
-        λ i l. both (inside-x i) (inside-y i) (required _ _ (then-first _ _ (point i l))) in (
+        λ i l. and-yes (inside-x i) (inside-y i) (required _ _ (then-first _ _ (point i l))) in (
           record {
             across = sides .0;
             up = sides .1;
