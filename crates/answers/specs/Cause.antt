@@ -28,7 +28,7 @@ abbrev pub check : Verdict → rule.Check
 check Fine = none
 check (Refused r) = some (cause r)
 
--- what a yes or no says of a check that r refuses
+-- a yes or no as a check: no is refused by r
 abbrev pub okCheck : Bool → rule.Refusal → rule.Check
 okCheck true r = none
 okCheck false r = some r

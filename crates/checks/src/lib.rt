@@ -6,9 +6,9 @@ ghost use lib.ListN.{length};
 ghost use Rattle.rules.specs.Answers as rule;
 ghost use Rattle.rules.specs.Grid.{controls, inRange};
 ghost use Rattle.rules.specs.Calls.{cellsCheck, unitCheck, latticeCheck};
-ghost use Rattle.answers.specs.Cause.{check};
+ghost use Rattle.answers.specs.Cause.{check, okCheck};
 ghost use Rattle.checks.specs.Found.{foundCheck, Exponent·says};
-ghost use Rattle.checks.specs.Scan.{headroom, allIn};
+ghost use Rattle.checks.specs.Scan.{headroom};
 use answers::Refusal;
 use answers::Verdict;
 
@@ -82,10 +82,10 @@ fn raised(z: i64) -> u64
     }
 }
 
-// Whether the first n values are in range. The loop tests no value, so that it is fast: "or" keeps each one's top bit.
+// Whether the first n values are in range. The loop tests no value, so that it is fast: "or" keeps the top bit of every one.
 fn all_in_range(values: &[i64], n: usize) -> bool
     requires { ⌜ n ≤ length (now values) ⌝ }
-    ensures { λ r. ⌜ r ≡ allIn n (now (values .entry)) ⌝ }
+    ensures { λ ok. ⌜ ((r : rule.Refusal) → rule.rangeCheck n (now (values .entry)) (λ i. r) ≡ okCheck ok r) ⌝ }
 {
     let mut bits = 0u64;
     let mut i = 0;

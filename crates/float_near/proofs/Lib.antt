@@ -3,4 +3,4 @@ pub mod Middle
 pub mod Order
 pub mod Quotient
 pub mod Shift
-pub mod Unit
+pub mod WholeRange

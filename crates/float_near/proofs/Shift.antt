@@ -16,7 +16,7 @@ use Rattle.algebra.specs.Difference.{split, whole}
 use Rattle.rules.specs.Grid.{limit}
 use Rattle.rules.specs.Level.{signed}
 use Rattle.float_near.proofs.Fraction.{over, under, Close, Ranged}
-use Rattle.float_near.proofs.Unit.{closest-is-close, round-to-whole}
+use Rattle.float_near.proofs.WholeRange.{closest-is-close, round-to-whole}
 
 -- the code's constant SHIFT, 1.5 × 2^52: as a number, and as an f64
 abbrev base : ℕ

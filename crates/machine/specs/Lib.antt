@@ -1,3 +1,4 @@
+pub mod Bits
 pub mod Held
 pub mod Sign
 pub mod Tests

@@ -1,4 +1,4 @@
--- `checks::all_in_range` meets its contract. The loop's invariant: the top bit is still 0 exactly if every value before i is in range.
+-- `checks::all_in_range` meets its contract. The loop's invariant: the top bit is still 0 exactly if no value before i is refused.
 use mathlib.Core.Path.{_≡_, refl, sym, ap, _∙_}
 use Prim.Native.Nat.{ℕ, _-_, _+_, _^_, _≤_, _<_}
 use native.Mathlib.Omega.{arith}
@@ -11,12 +11,14 @@ use lib.Signed.{mag}
 use mir.Syntax.{w64}
 use mir.Val.{toZ, ofZ}
 use Rattle.machine.specs.Tests.{plain}
-use Rattle.checks.specs.Scan.{headroom, allIn, allIn-more}
+use Rattle.rules.specs.Answers.{firstOf, rangeCheck}
+use Rattle.answers.specs.Cause.{okCheck}
+use Rattle.checks.specs.Scan.{headroom, Scanned, scan-more}
 use Rattle.checks.proofs.all_in_range.Statement.{statement}
 use Rattle.checks.proofs.all_in_range.Tie as tie
 
 abbrev Inv-loop : tie.InvT-loop
-Inv-loop values n bits₀ i₀ bits i = (i ≤ n) × (ltb bits (2 ^ 63) ≡ allIn i values)
+Inv-loop values n bits₀ i₀ bits i = (i ≤ n) × Scanned i bits values
 
 abbrev μ-loop : tie.MeasureT-loop
 μ-loop values n bits₀ i₀ bits i = n - i
@@ -26,8 +28,8 @@ sized : (z : ℤ) (r : ℕ) → mag z < 2 ^ 63 → r ≡ natAbs (toZ w64 (ofZ w6
 sized z r fits e = e ∙ ap (λ v. natAbs v + headroom) (plain z fits)
 
 loop-holds : tie.Need-loop-holds Inv-loop μ-loop
-unfolding allIn
-loop-holds c = (omega arith, refl)
+unfolding rangeCheck firstOf
+loop-holds c = (omega arith, λ r. refl)
 
 mul-raised : tie.Need-mul-raised Inv-loop μ-loop
 mul-raised c = omega arith
@@ -48,7 +50,7 @@ loop-again : tie.Need-loop-again Inv-loop μ-loop
 loop-again c =
     let p = c .before .before .before in
     let e = sized (getD (p .before .args .values .now) (p .loop .i) (pos 0)) _ (c .before .raised-arg .given) (c .raised .ensures) in
-    (omega arith, ap (λ r. ltb (bitOr (p .loop .bits) r) (2 ^ 63)) e ∙ allIn-more (p .loop .i) (p .loop .bits) _ (p .loop .inv .1))
+    (omega arith, λ r. scan-more (p .loop .i) (p .loop .bits) _ (p .loop .inv .1) r ∙ ap (λ b. okCheck (ltb (bitOr (p .loop .bits) b) (2 ^ 63)) r) (sym e))
 
 returns : tie.Need-returns Inv-loop μ-loop
 returns c =

@@ -14,9 +14,9 @@ use mir.Syntax.{w64}
 use mir.Val.{toZ, ofZ}
 use Rattle.machine.specs.Tests.{plain}
 use Rattle.rules.specs.Grid.{inRange}
-use Rattle.rules.specs.Answers.{firstOf, rangeCheck}
-use Rattle.rules.specs.Laws.Checks.{NoneOut, noneOut-more, noneOut-at}
-use Rattle.checks.specs.Scan.{allIn, allIn-none}
+use Rattle.rules.specs.Answers.{firstOf, rangeCheck, short}
+use Rattle.rules.specs.Laws.Checks.{NoneOut, noneOut-more, noneOut-at, rangeCheck-size, size-rangeCheck}
+use Rattle.answers.specs.Cause.{okCheck}
 use Rattle.checks.proofs.first_out.Statement.{statement}
 use Rattle.checks.proofs.first_out.Tie as tie
 
@@ -38,7 +38,8 @@ all-in-range-requires : tie.Need-all-in-range-requires Inv-loop μ-loop
 all-in-range-requires c κs = omega arith
 
 returns : tie.Need-returns Inv-loop μ-loop
-returns c = allIn-none _ _ (subst T (sym (c .if1 .taken) ∙ c .before .all-in-range .ensures) tt)
+returns c f =
+    size-rangeCheck _ _ f (rangeCheck-size _ _ (λ i. short) (c .before .all-in-range .ensures short ∙ ap (λ ok. okCheck ok short) (c .if1 .taken)))
 
 loop-holds : tie.Need-loop-holds Inv-loop μ-loop
 unfolding rangeCheck firstOf
