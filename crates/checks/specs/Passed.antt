@@ -1,5 +1,5 @@
 -- What a check that refuses nothing has shown: the bounds that callers go on with.
-use Prim.Native.Nat.{ℕ, _+_, _*_, _^_, _≤_}
+use Prim.Native.Nat.{ℕ, _+_, _*_, _^_, _≤_, _<_}
 use mathlib.Core.Path.{_≡_}
 use mathlib.Core.Bool.{_&&_}
 use mathlib.Core.Option.{none}
@@ -40,3 +40,13 @@ edge-fits e m h k = mul-le-mul (pow-mono {i = e} {j = 9} h) k
 -- the same of a unit that is known to be 2^e
 pub last-fits : {U : ℕ} (e m : ℕ) → U ≡ 2 ^ e → e ≤ 9 → m ≤ 512 → U * m ≤ 512 * 512
 last-fits e m u h k = rw u (edge-fits e m h k)
+
+-- ---- cells that heights can be read on and levels fitted to
+
+-- m by n cells of 2^e positions, as many and as wide as document 01 has them at most
+pub record Gridded (m n e : ℕ) : Type 0 where
+  pub m-some : 0 < m
+  pub m-most : m ≤ 512
+  pub n-some : 0 < n
+  pub n-most : n ≤ 512
+  pub e-most : e ≤ 9
