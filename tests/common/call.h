@@ -77,7 +77,7 @@ static inline int writes(function f, role r)
     return (shapes[f].written >> r & 1) != 0;
 }
 
-/* The refusals are numbered 1 to 12, and 0 is an acceptance. */
+/* The refusals are numbered from 1 to this, and 0 is an acceptance. The largest number stands here alone. */
 enum { MOST_NUMBER = 12 };
 
 #endif

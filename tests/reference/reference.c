@@ -83,6 +83,16 @@ static unsigned shift_of_unit(size_t unit)
 
 /* ---- Rounding ---- */
 
+/*
+ * Where an exact half goes, "to the larger": the one place of this file that says it. Each near below finds
+ * the larger of the two nearest whole numbers, and whether it is exactly a half away.
+ */
+static int64_t nearest(int64_t larger, int half)
+{
+    (void)half;
+    return larger;
+}
+
 int64_t ref_near(int64_t v, int64_t d)
 {
     if (d < 1)
@@ -92,7 +102,7 @@ int64_t ref_near(int64_t v, int64_t d)
         rest += d;
         quotient--;
     }
-    return rest >= d - rest ? quotient + 1 : quotient;   /* an exact half goes to the larger */
+    return rest < d - rest ? quotient : nearest(quotient + 1, rest == d - rest);
 }
 
 /*
@@ -105,13 +115,14 @@ static int64_t near_of_basis_sum(int64_t v, unsigned shift)
 {
     int64_t cube = INT64_C(1) << 3 * shift;
     uint64_t raised = (uint64_t)(v + 6 * cube * BOUND + 3 * cube);
-    return (int64_t)((raised >> 3 * shift) / 6) - BOUND;
+    return nearest((int64_t)((raised >> 3 * shift) / 6) - BOUND, raised % (uint64_t)(6 * cube) == 0);
 }
 
 /* near(v / 64) of a refinement sum, |v| <= 64 * BOUND, in the same way. */
 static int64_t near_of_refinement_sum(int64_t v)
 {
-    return (int64_t)((uint64_t)(v + 64 * BOUND + 32) / 64) - BOUND;
+    uint64_t raised = (uint64_t)(v + 64 * BOUND + 32);
+    return nearest((int64_t)(raised / 64) - BOUND, raised % 64 == 0);
 }
 
 /* near of a finite f64's exact value, |q| < 2^52: a fraction is exact in f64. */
@@ -119,7 +130,7 @@ static int64_t near_of_f64(double q)
 {
     int64_t whole = (int64_t)q;     /* toward zero */
     double fraction = q - (double)whole;
-    return whole + (fraction >= 0.5) - (fraction < -0.5);
+    return nearest(whole + (fraction >= 0.5) - (fraction < -0.5), fraction == 0.5 || fraction == -0.5);
 }
 
 /* ---- Basis and height ---- */
@@ -325,9 +336,8 @@ static void gather_sums(const fit_work *f, size_t m, size_t n, unsigned shift)
 }
 
 /*
- * The level lattice from the sums; 0 if a quotient is refused. A half goes to the
- * larger, so exactly the quotients from -BOUND - 1/2 to below BOUND + 1/2 round in
- * range; both ends are exact in f64, and no NaN passes.
+ * The level lattice from the sums; 0 if a quotient is refused: one that is no number, or
+ * rounds out of range. What is far outside is refused before it is rounded, and no NaN passes.
  */
 static int round_quotients(const fit_work *f, size_t places)
 {
@@ -335,9 +345,11 @@ static int round_quotients(const fit_work *f, size_t places)
         f->level[i] = 0;            /* untouched */
         if (f->second[i] > 0.0) {
             double quotient = f->first[i] / f->second[i];
-            if (!(quotient >= -4000000000.5 && quotient < 4000000000.5))
+            if (!(quotient > -4000000001.0 && quotient < 4000000001.0))
                 return 0;
             f->level[i] = near_of_f64(quotient);
+            if (!in_range(f->level[i]))
+                return 0;
         }
     }
     return 1;
@@ -366,33 +378,38 @@ static int add_level(int64_t *restrict running, const int64_t *restrict level, s
     return good;
 }
 
-/* Level k of the fit; 0 for refusal 7. kept, if any, receives the level lattice. */
-static int run_level(fit_work *f, size_t k, int64_t *kept)
+/* "a quotient, then a residual, then a sum out of range in a level": why a level is refused, and its number. */
+typedef enum { NONE, QUOTIENT, RESIDUAL, SUM } cause;
+
+static const uint64_t number_of[] = { [NONE] = 0, [QUOTIENT] = 7, [RESIDUAL] = 7, [SUM] = 7 };
+
+/* Level k of the fit. kept, if any, receives the level lattice. */
+static cause run_level(fit_work *f, size_t k, int64_t *kept)
 {
     size_t m = f->m0 << k, n = f->n0 << k, places = lattice_places(m, n);
     unsigned shift = FINEST_SHIFT + (unsigned)(f->h - k);
     gather_sums(f, m, n, shift);
     if (!round_quotients(f, places))
-        return 0;
+        return QUOTIENT;
     if (kept != NULL)
         memcpy(kept, f->level, places * sizeof *kept);
     if (!lower_residuals(f, m, n, shift))
-        return 0;
+        return RESIDUAL;
     int64_t *old = f->running;
     if (k == 0) {                   /* no running lattice yet: the level lattice becomes it */
         f->running = f->level;
         f->level = old;
-        return 1;
+        return NONE;
     }
     refine_lattice(m / 2, n / 2, old, f->spare);
     f->running = f->spare;
     f->spare = old;
-    return add_level(f->running, f->level, places);
+    return add_level(f->running, f->level, places) ? NONE : SUM;
 }
 
 /*
- * Both fits; ref_fit lends no levels. All work is done in the scratch, as refusal 7
- * leaves lattice and residuals as they were.
+ * Both fits; ref_fit lends no levels. All work is done in the scratch, as a refusal in a
+ * level leaves lattice and residuals as they were.
  */
 ref_cells ref_fit_levels(size_t m0, size_t n0, size_t h,
                          const uint16_t *x, size_t x_len, const uint16_t *y, size_t y_len,
@@ -417,18 +434,19 @@ ref_cells ref_fit_levels(size_t m0, size_t n0, size_t h,
                    floats, floats + places };
     for (size_t i = 0; i < points; i++)
         f.residual[i] = z[i];
+    cause bad_level = NONE;
     size_t k = 0;
-    while (k <= h && run_level(&f, k, levels == NULL ? NULL : levels[k]))
+    while (k <= h && (bad_level = run_level(&f, k, levels == NULL ? NULL : levels[k])) == NONE)
         k++;
-    if (k > h) {
+    if (bad_level == NONE) {
         memcpy(lattice, f.running, places * sizeof *lattice);
         for (size_t i = 0; i < points; i++)
             residual[i] = f.residual[i];
     }
     memset(whole, 0, (3 * places + points) * sizeof *whole);
     memset(floats, 0, 2 * places * sizeof *floats);     /* all bits zero is +0 */
-    if (k <= h)
-        return (ref_cells){ .number = 7, .place = k };
+    if (bad_level != NONE)
+        return (ref_cells){ .number = number_of[bad_level], .place = k };
     return (ref_cells){ .m = m0 << h, .n = n0 << h };
 }
 
