@@ -10,6 +10,7 @@
  *     where the length is 0 the pointer may be NULL;
  *   - a slice that is written overlaps no other slice of the call;
  *   - the memory is initialised. f64 scratch may hold NaN.
+ * A call uses at most 8,192 bytes of stack (measured, see docs/HOST.md).
  * There is no global state: calls on separate slices may run side by side.
  *
  * Heights, control values and residuals are whole micrometres from -4,000,000,000 to 4,000,000,000 ("in range").

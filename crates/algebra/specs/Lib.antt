@@ -3,3 +3,4 @@ pub mod Solver
 pub mod Difference
 pub mod Size
 pub mod Table
+pub mod Partly

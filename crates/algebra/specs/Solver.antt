@@ -10,23 +10,23 @@ use lib.ListN.{getD}
 use Rattle.algebra.specs.Ring.{+ℤ-interchange, eq-of-difference, *ℤ-idl, *ℤ-idr, *ℤ-distribl, *ℤ-distribr, negℤ-*ℤ, *ℤ-assoc, *ℤ-left-comm}
 
 -- ---- expressions
-infixl 70 _⊕_ _⊖_
-infixl 75 _⊗_
+infixl 70 _⊞_ _⊟_
+infixl 75 _⊠_
 pub data Expr : Type 0 where
   var : ℕ → Expr
   con : ℤ → Expr
-  _⊕_ _⊗_ : Expr → Expr → Expr
+  _⊞_ _⊠_ : Expr → Expr → Expr
   neg : Expr → Expr
 
-abbrev pub _⊖_ : Expr → Expr → Expr
-a ⊖ b = a ⊕ neg b
+abbrev pub _⊟_ : Expr → Expr → Expr
+a ⊟ b = a ⊞ neg b
 
 -- an environment lists the values of `var 0`, `var 1`, ..
 abbrev pub den : Expr → List ℤ → ℤ
 den (var i) ρ = getD ρ i (pos 0)
 den (con c) ρ = c
-den (a ⊕ b) ρ = den a ρ +ℤ den b ρ
-den (a ⊗ b) ρ = den a ρ *ℤ den b ρ
+den (a ⊞ b) ρ = den a ρ +ℤ den b ρ
+den (a ⊠ b) ρ = den a ρ *ℤ den b ρ
 den (neg a) ρ = negℤ (den a ρ)
 
 -- ---- Horner forms: `hor a b` is a + x·b, with x the first variable and a in the others
@@ -83,8 +83,8 @@ mul (hor a b) (hor a' b') = add (times (λ q. mul a q) (hor a' b')) (join (coef 
 abbrev pub norm : Expr → Horner
 norm (var i) = variable i
 norm (con c) = coef c
-norm (a ⊕ b) = add (norm a) (norm b)
-norm (a ⊗ b) = mul (norm a) (norm b)
+norm (a ⊞ b) = add (norm a) (norm b)
+norm (a ⊠ b) = mul (norm a) (norm b)
 norm (neg a) = scale (negsuc 0) (norm a)
 
 abbrev pub is-zero : Horner → Bool
@@ -161,8 +161,8 @@ mul-val (hor a b) (hor a' b') ρ =
 norm-val : (e : Expr) (ρ : List ℤ) → val (norm e) ρ ≡ den e ρ
 norm-val (var i) ρ = variable-val i ρ
 norm-val (con c) ρ = refl
-norm-val (a ⊕ b) ρ = add-val (norm a) (norm b) ρ ∙ ap₂ (λ x y. x +ℤ y) (norm-val a ρ) (norm-val b ρ)
-norm-val (a ⊗ b) ρ = mul-val (norm a) (norm b) ρ ∙ ap₂ (λ x y. x *ℤ y) (norm-val a ρ) (norm-val b ρ)
+norm-val (a ⊞ b) ρ = add-val (norm a) (norm b) ρ ∙ ap₂ (λ x y. x +ℤ y) (norm-val a ρ) (norm-val b ρ)
+norm-val (a ⊠ b) ρ = mul-val (norm a) (norm b) ρ ∙ ap₂ (λ x y. x *ℤ y) (norm-val a ρ) (norm-val b ρ)
 norm-val (neg a) ρ =
     scale-val (negsuc 0) (norm a) ρ ∙ negℤ-*ℤ (pos 1) (val (norm a) ρ) ∙ ap negℤ (*ℤ-idl (val (norm a) ρ) ∙ norm-val a ρ)
 
@@ -172,18 +172,18 @@ zero-val (coef (pos (suc n))) ρ t = absurd t
 zero-val (coef (negsuc n)) ρ t = absurd t
 zero-val (hor a b) ρ t = absurd t
 
-pub solve : (e₁ e₂ : Expr) (ρ : List ℤ) → T (is-zero (norm (e₁ ⊖ e₂))) → den e₁ ρ ≡ den e₂ ρ
-solve e₁ e₂ ρ t = eq-of-difference (den e₁ ρ) (den e₂ ρ) (sym (norm-val (e₁ ⊖ e₂) ρ) ∙ zero-val (norm (e₁ ⊖ e₂)) ρ t)
+pub solve : (e₁ e₂ : Expr) (ρ : List ℤ) → T (is-zero (norm (e₁ ⊟ e₂))) → den e₁ ρ ≡ den e₂ ρ
+solve e₁ e₂ ρ t = eq-of-difference (den e₁ ρ) (den e₂ ρ) (sym (norm-val (e₁ ⊟ e₂) ρ) ∙ zero-val (norm (e₁ ⊟ e₂)) ρ t)
 
 -- ---- how to call it: the two sides over variables, their values in order, and `tt`
 square-of-sum : (x y : ℤ) → (x +ℤ y) *ℤ (x +ℤ y) ≡ x *ℤ x +ℤ pos 2 *ℤ x *ℤ y +ℤ y *ℤ y
 square-of-sum x y =
     let a = var 0 in
     let b = var 1 in
-    solve ((a ⊕ b) ⊗ (a ⊕ b)) (a ⊗ a ⊕ con (pos 2) ⊗ a ⊗ b ⊕ b ⊗ b) (x ∷ y ∷ []) tt
+    solve ((a ⊞ b) ⊠ (a ⊞ b)) (a ⊠ a ⊞ con (pos 2) ⊠ a ⊠ b ⊞ b ⊠ b) (x ∷ y ∷ []) tt
 
 difference-of-squares : (x y : ℤ) → (x -ℤ y) *ℤ (x +ℤ y) ≡ x *ℤ x -ℤ y *ℤ y
 difference-of-squares x y =
     let a = var 0 in
     let b = var 1 in
-    solve ((a ⊖ b) ⊗ (a ⊕ b)) (a ⊗ a ⊖ b ⊗ b) (x ∷ y ∷ []) tt
+    solve ((a ⊟ b) ⊠ (a ⊞ b)) (a ⊠ a ⊟ b ⊠ b) (x ∷ y ∷ []) tt

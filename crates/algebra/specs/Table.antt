@@ -1,14 +1,14 @@
 -- Lists as tables: a list by its entries' rule, a list joined from parts, and a result laid over the start of a slice, with their laws.
 use mathlib.Core.Path.{_≡_, refl, sym, ap, ap₂, _∙_}
 use mathlib.Core.List.{List, [], _∷_, _++_, append-assoc, append-nil}
-use mathlib.Core.Logic.{_⊎_, ⊎-elim}
-use Prim.Native.Nat.{ℕ, zero, suc, _+_, _-_, _≤_, _<_}
+use mathlib.Core.Logic.{_⊎_, inl, ⊎-elim}
+use Prim.Native.Nat.{ℕ, zero, suc, _+_, _-_, _*_, _≤_, _<_}
 use native.Mathlib.Numerals.{add-one}
 use native.Mathlib.Omega.{arith}
 use native.Mathlib.Decide.{decLt}
 use native.Mathlib.Nat.{not-suc-le-zero, add-zero, zero-add, add-suc, add-assoc}
 use lib.ListN.{length, getD, take, drop, set, replicate, length-append, length-take, length-drop, take-append-drop, drop-of-length-le, replicate-append-replicate, List·getD-append}
-use lib.Seq.{take-suc, getD-at, getD-append-add, getD-take, getD-drop, drop-cons, set-at, take-at, drop-at, drop-drop, take-append-seam, take-append-le, drop-append-le, take-take, drop-append-add, sets, sets-eq}
+use lib.Seq.{length-take-le, take-suc, getD-at, getD-append-add, getD-take, getD-drop, drop-cons, set-at, take-at, drop-at, drop-drop, take-append-seam, take-append-le, drop-append-le, take-take, drop-append-add, sets, sets-eq}
 
 -- the k places from n on are apart from the j places from m on
 abbrev pub Apart : ℕ → ℕ → ℕ → ℕ → Type 0
@@ -36,6 +36,12 @@ module _ {ℓ} {A : Type ℓ} where
   -- the k entries of d from n on
   unfoldable pub area : ℕ → ℕ → List A → List A
   area n k d = take k (drop n d)
+
+  -- from a slice before to the slice after, the k places from n on are free: some entries stand there, and all else is as it was
+  pub record Free (n k : ℕ) (before after : List A) : Type ℓ where
+    pub values : List A
+    pub as-many : length values ≡ k
+    pub is : after ≡ laid n values before
 
   pub length-tabulate : (n : ℕ) (f : ℕ → A) → length (tabulate n f) ≡ n
   unfolding tabulate
@@ -328,14 +334,105 @@ module _ {ℓ} {A : Type ℓ} where
       next : List A
       next = tabulate k (λ j. f (i + j))
 
-  -- ---- slices that agree past a place
+  -- the next list, laid where the one before ends
+  pub laid-after : (n k : ℕ) (r next d : List A) → n ≤ length d → k ≡ n + length r → laid k next (laid n r d) ≡ laid n (r ++ next) d
+  laid-after n k r next d h e = ap (λ i. laid i next (laid n r d)) e ∙ laid-more n r next d h
 
-  pub drop-further : (n k : ℕ) (d e : List A) → n ≤ k → drop n d ≡ drop n e → drop k d ≡ drop k e
-  drop-further n k d e h p = at d ∙ ap (drop (k - n)) p ∙ sym (at e)
-    where
-      at : (l : List A) → drop k l ≡ drop (k - n) (drop n l)
-      at l = let e : n + (k - n) ≡ k = omega arith in rw (drop-drop (k - n) n l, e) refl
+  -- with what stands before n, the entries are a result over the slice
+  pub laid-as-over : (n : ℕ) (r d : List A) → n ≤ length d → laid n r d ≡ over (take n d ++ r) d
+  unfolding laid over
+  laid-as-over n r d h =
+      rw (length-append (take n d) r, length-take-le n d h) (sym (append-assoc (take n d) r (drop (n + length r) d)))
+
+  -- ---- lists joined from parts
+
+  pub length-joined : (w : ℕ) (f : ℕ → List A) → ((i : ℕ) → length (f i) ≡ w) → (n : ℕ) → length (joined n f) ≡ n * w
+  unfolding joined
+  length-joined w f e zero = omega arith
+  length-joined w f e (suc n) = rw (length-append (joined n f) (f n), length-joined w f e n, e n) (omega arith)
+
+  pub joined-same : (n : ℕ) (f g : ℕ → List A) → ((i : ℕ) → i < n → f i ≡ g i) → joined n f ≡ joined n g
+  unfolding joined
+  joined-same zero f g h = refl
+  joined-same (suc n) f g h = ap₂ (λ l x. l ++ x) (joined-same n f g (λ i l. h i (omega arith))) (h n (omega arith))
+
+  -- the next part, laid where i parts of length w from n on end
+  pub laid-joined : (n k i w : ℕ) (f : ℕ → List A) (d : List A) → ((j : ℕ) → length (f j) ≡ w) → n ≤ length d → k ≡ n + i * w
+      → laid k (f i) (laid n (joined i f) d) ≡ laid n (joined (i + 1) f) d
+  unfolding joined
+  laid-joined n k i w f d h l e =
+      laid-after n k (joined i f) (f i) d l (e ∙ ap (λ x. n + x) (sym (length-joined w f h i)))
+      ∙ ap (λ x. laid n (joined x f) d) (sym (add-one i))
+
+  -- ---- slices that agree past a place
 
   pub over-past : (r d e : List A) → drop (length r) d ≡ drop (length r) e → over r d ≡ over r e
   unfolding over
   over-past r d e p = ap (λ l. r ++ l) p
+
+  pub drop-over : (n : ℕ) (r d : List A) → length r ≤ n → drop n (over r d) ≡ drop n d
+  drop-over n r d h = ap (drop n) (sym (laid-front r d)) ∙ drop-laid 0 n r d (omega arith) (omega arith)
+
+  -- a second result of the same length hides the first
+  pub over-over : (r q d : List A) → length r ≡ length q → over r (over q d) ≡ over r d
+  over-over r q d e = over-past r (over q d) d (drop-over (length r) q d (omega arith))
+
+  -- ---- free places
+
+  -- slices of one length that agree before n and from n + k on
+  pub free-between : {before after : List A} (n k : ℕ) → n + k ≤ length before → length after ≡ length before → take n after ≡ take n before
+      → drop (n + k) after ≡ drop (n + k) before → Free n k before after
+  unfolding area laid
+  free-between {before} {after} n k h e front past =
+      let many = length-area n k after (rw e h) in
+      record {
+        values = area n k after;
+        as-many = many;
+        is = sym (take-append-drop n after)
+            ∙ ap₂ _++_ front (sym (take-append-drop k (drop n after)) ∙ ap (λ r. area n k after ++ r) (drop-drop k n after ∙ past ∙ ap (λ j. drop (n + j) before) (sym many)));
+      }
+
+  -- places that are free at the start of a part that is lent from n on are free in the whole
+  pub free-part : (n k j : ℕ) (d part : List A) → k ≤ j → n + j ≤ length d → Free 0 k (take j (drop n d)) part
+      → Free n k d (take n d ++ (part ++ drop j (drop n d)))
+  free-part n k j d part h l f =
+      record {
+        values = f .values;
+        as-many = f .as-many;
+        is = ap (λ p. take n d ++ (p ++ drop j (drop n d))) (f .is ∙ laid-front (f .values) (take j (drop n d)))
+            ∙ laid-part n j (f .values) d (rw (f .as-many) h) l;
+      }
+
+  module _ {n k : ℕ} {before after : List A} (f : Free n k before after) (room : n + k ≤ length before) where
+    pub free-length : length after ≡ length before
+    free-length = ap length (f .is) ∙ length-laid n (f .values) before (rw (f .as-many) room)
+
+    pub free-area : (i j : ℕ) → Apart i j n k → area i j after ≡ area i j before
+    free-area i j a = ap (area i j) (f .is) ∙ area-apart i j n (f .values) before (rw (f .as-many) a) (omega arith)
+
+    pub free-take : (i : ℕ) → i ≤ n → take i after ≡ take i before
+    unfolding area
+    free-take i h = free-area 0 i (inl (rw (zero-add i) h))
+
+    pub free-drop : (i : ℕ) → n + k ≤ i → drop i after ≡ drop i before
+    free-drop i h = ap (drop i) (f .is) ∙ drop-laid n i (f .values) before (rw (f .as-many) h) (omega arith)
+
+    -- more places are free
+    pub free-wider : (i j : ℕ) → i ≤ n → n + k ≤ i + j → i + j ≤ length before → Free i j before after
+    free-wider i j h g l = free-between i j l free-length (free-take i h) (free-drop (i + j) g)
+
+  -- some of the k places are written
+  pub free-laid : (n k : ℕ) (r d : List A) → length r ≤ k → n + k ≤ length d → Free n k d (laid n r d)
+  free-laid n k r d h l = free-wider (record { values = r; as-many = refl; is = refl }) (omega arith) n k (omega arith) (omega arith) l
+
+  pub free-over : (k : ℕ) (r d : List A) → length r ≤ k → k ≤ length d → Free 0 k d (over r d)
+  free-over k r d h l = rw (← laid-front r d) (free-laid 0 k r d h (omega arith))
+
+  -- the same places stay free in a second step
+  pub free-again : {n k : ℕ} {before middle after : List A} → n + k ≤ length before → Free n k before middle → Free n k middle after → Free n k before after
+  free-again {n} {k} {before} {middle} room f g =
+      let there : n + k ≤ length middle = rw (free-length f room) room in
+      free-between n k room
+      (free-length g there ∙ free-length f room)
+      (free-take g there n (omega arith) ∙ free-take f room n (omega arith))
+      (free-drop g there (n + k) (omega arith) ∙ free-drop f room (n + k) (omega arith))

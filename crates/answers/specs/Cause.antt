@@ -1,4 +1,5 @@
 -- The code's refusals and verdicts as those of the rules: `number` and `place` of the rules then give document 01's number and place for each case.
+use mathlib.Core.Path.{_≡_, sym, ap, _∙_}
 use mathlib.Core.Bool.{Bool, true, false}
 use mathlib.Core.Option.{none, some}
 use Rattle.rules.specs.Answers as rule
@@ -32,3 +33,7 @@ check (Refused r) = some (cause r)
 abbrev pub okCheck : Bool → rule.Refusal → rule.Check
 okCheck true r = none
 okCheck false r = some r
+
+-- a function is promised to return a verdict x whose check is k, and x is known to be v: so k is the check of v
+pub found : {x v : Verdict} {k : rule.Check} → check x ≡ k → x ≡ v → k ≡ check v
+found e is = sym e ∙ ap check is

@@ -1,30 +1,31 @@
 -- What a check that refuses nothing has shown: the bounds that callers go on with.
 use Prim.Native.Nat.{ℕ, _+_, _*_, _^_, _≤_, _<_}
-use mathlib.Core.Path.{_≡_}
-use mathlib.Core.Bool.{_&&_}
-use mathlib.Core.Option.{none}
+use mathlib.Core.Path.{_≡_, sym, ap, subst, _∙_}
+use mathlib.Core.Option.{none, some}
 use mathlib.Core.List.{List}
 use native.Mathlib.Nat.{mul-le-mul}
 use native.Mathlib.Omega.{arith}
+use lib.Dec.{leb, leb→le}
 use lib.IntN.{ℤ}
+use lib.ListN.{length}
 use lib.Pow.{pow-mono}
-use mir.Facts.{and-yes}
-use Rattle.rules.specs.Grid.{within, controls}
-use Rattle.rules.specs.Answers.{cells, range}
+use Rattle.rules.specs.Grid.{controls}
+use Rattle.rules.specs.Answers.{Check, require, short}
 use Rattle.rules.specs.Calls.{cellsCheck, latticeCheck}
-use Rattle.rules.specs.Laws.Checks.{required, within-bounds, AllInRange, rangeCheck-size}
+use Rattle.rules.specs.Laws.Checks.{required, then-first, then-rest, AllInRange}
+use Rattle.rules.specs.Laws.Passed.{cells-passed, lattice-passed}
+use Rattle.answers.specs.Cause.{cause}
+use Rattle.answers.specs.declared.Refusal.{Refusal}
+use Rattle.checks.specs.Found.{storedCheck, readyCheck, Tells}
+use Rattle.checks.specs.declared.Readiness.{Readiness}
+use Rattle.checks.specs.declared.Readiness.the-variants.{Of, Refused}
 
-pub cells-passed : (most m n : ℕ) → cellsCheck most m n ≡ none → (1 ≤ m) × (m ≤ most) × (1 ≤ n) × (n ≤ most)
-unfolding cellsCheck
-cells-passed most m n e =
-    let p = and-yes (within 1 most m) (within 1 most n) (required (within 1 most m && within 1 most n) cells e) in
-    let x = within-bounds 1 most m (p .0) in
-    let y = within-bounds 1 most n (p .1) in
-    (x .0, x .1, y .0, y .1)
-
-pub lattice-passed : (m n : ℕ) (values : List ℤ) → latticeCheck m n values ≡ none → AllInRange (controls m n) values
-unfolding latticeCheck
-lattice-passed m n values e = rangeCheck-size (controls m n) values range e
+pub stored-passed : (m n : ℕ) (values : List ℤ) → storedCheck m n values ≡ none → (controls m n ≤ length values) × AllInRange (controls m n) values
+unfolding storedCheck
+stored-passed m n values e =
+    let long = leb (controls m n) (length values) in
+    let first = then-first (require long short) (latticeCheck m n values) e in
+    (leb→le (controls m n) (length values) (required long short first), lattice-passed m n values (then-rest (require long short) (latticeCheck m n values) e))
 
 -- ---- so the products of these bounds fit the machine
 
@@ -50,3 +51,23 @@ pub record Gridded (m n e : ℕ) : Type 0 where
   pub n-some : 0 < n
   pub n-most : n ≤ 512
   pub e-most : e ≤ 9
+
+pub cells-gridded : {m n e : ℕ} → cellsCheck 512 m n ≡ none → e ≤ 9 → Gridded m n e
+cells-gridded {m} {n} c h = let p = cells-passed 512 m n c in record { m-some = p .0; m-most = p .1; n-some = p .2; n-most = p .3; e-most = h }
+
+-- ---- answers with an exponent, or with a refusal
+
+pub exponent-check : {c : Check} {U : ℕ} {P : ℕ → Type 0} {r : Readiness} {e : ℕ} → Tells c U P r → r ≡ Of e → c ≡ none
+exponent-check t e = sym (t .is) ∙ ap readyCheck e
+
+pub refusal-check : {c : Check} {U : ℕ} {P : ℕ → Type 0} {r : Readiness} {v : Refusal} → Tells c U P r → r ≡ Refused v → c ≡ some (cause v)
+refusal-check t e = sym (t .is) ∙ ap readyCheck e
+
+pub tells-exponent : {c : Check} {U : ℕ} {P : ℕ → Type 0} {e : ℕ} → c ≡ none → U ≡ 2 ^ e → P e → Tells c U P (Of e)
+tells-exponent {U = U} {P} {e} n u p = record { is = sym n; behind = λ f i. let same : e ≡ f = cc in subst (λ e. (U ≡ 2 ^ e) × P e) same (u, p) }
+
+pub tells-refusal : {c : Check} {U : ℕ} {P : ℕ → Type 0} {v : Refusal} → c ≡ some (cause v) → Tells c U P (Refused v)
+tells-refusal {v = v} s = record { is = sym s; behind = λ e i. absurd (apart e i) }
+  where
+    apart : (e : ℕ) → Refused v ≡ Of e → ⊥
+    apart e i = let z : _≡_ {A = ℕ} 0 1 = cc in omega arith

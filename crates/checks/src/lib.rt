@@ -4,10 +4,12 @@ ghost use Prim.Native.Nat.{ℕ, _+_, _≤_};
 ghost use lib.IntN.{natAbs};
 ghost use lib.ListN.{length};
 ghost use Rattle.rules.specs.Answers as rule;
+ghost use Rattle.rules.specs.Grid as grid;
 ghost use Rattle.rules.specs.Grid.{controls, inRange};
 ghost use Rattle.rules.specs.Calls.{cellsCheck, unitCheck, latticeCheck};
 ghost use Rattle.answers.specs.Cause.{check, okCheck};
-ghost use Rattle.checks.specs.Found.{foundCheck, Exponent·says};
+ghost use Rattle.checks.specs.Found.{foundCheck, Tells, gridCheck, storedCheck};
+ghost use Rattle.checks.specs.Passed.{Gridded};
 ghost use Rattle.checks.specs.Scan.{headroom};
 use answers::Refusal;
 use answers::Verdict;
@@ -18,44 +20,61 @@ pub enum Found {
     Nowhere,
 }
 
-// The e of U = 2^e, or that document 01 does not list U.
-pub enum Exponent {
+// What checks tell of a unit U: the e of U = 2^e where they refuse nothing, or the first refusal.
+pub enum Readiness {
     Of(u32),
-    Unlisted,
+    Refused(Refusal),
+}
+
+// low ≤ v ≤ high
+pub fn within(low: usize, high: usize, v: usize) -> bool
+    ensures { λ r. ⌜ r ≡ grid.within low high v ⌝ }
+{
+    if v < low {
+        return false;
+    }
+    if high < v {
+        return false;
+    }
+    true
 }
 
 // 1: cells a side from 1 to most
 pub fn cells(most: usize, m: usize, n: usize) -> Verdict
     ensures { λ r. ⌜ check r ≡ cellsCheck most m n ⌝ }
 {
-    if m < 1 {
+    if !within(1, most, m) {
         return Verdict::Refused(Refusal::Cells);
     }
-    if most < m {
-        return Verdict::Refused(Refusal::Cells);
-    }
-    if n < 1 {
-        return Verdict::Refused(Refusal::Cells);
-    }
-    if most < n {
+    if !within(1, most, n) {
         return Verdict::Refused(Refusal::Cells);
     }
     Verdict::Fine
 }
 
 // 2: "U = 16, 32, 64, 128, 256 or 512"
-pub fn listed_unit(unit: usize) -> Exponent
-    ensures { λ r. ⌜ Exponent·says unit r ⌝ }
+fn listed_unit(unit: usize) -> Readiness
+    ensures { λ r. ⌜ Tells (unitCheck unit) unit (λ e. e ≤ 9) r ⌝ }
 {
     match unit {
-        16 => Exponent::Of(4),
-        32 => Exponent::Of(5),
-        64 => Exponent::Of(6),
-        128 => Exponent::Of(7),
-        256 => Exponent::Of(8),
-        512 => Exponent::Of(9),
-        _ => Exponent::Unlisted,
+        16 => Readiness::Of(4),
+        32 => Readiness::Of(5),
+        64 => Readiness::Of(6),
+        128 => Readiness::Of(7),
+        256 => Readiness::Of(8),
+        512 => Readiness::Of(9),
+        _ => Readiness::Refused(Refusal::Unit),
     }
+}
+
+// 1 and 2: cells that heights can be read on
+pub fn gridded(m: usize, n: usize, unit: usize) -> Readiness
+    ensures { λ r. ⌜ Tells (gridCheck m n unit) unit (Gridded m n) r ⌝ }
+{
+    if let Verdict::Refused(r) = cells(512, m, n) {
+        return Readiness::Refused(r);
+    }
+    listed_unit(unit)
 }
 
 // "whole micrometres from -4,000,000,000 to 4,000,000,000"
@@ -96,8 +115,8 @@ fn all_in_range(values: &[i64], n: usize) -> bool
     bits < 9_223_372_036_854_775_808
 }
 
-// The first of n values that is out of range. Every scan for an offender is this one.
-pub fn first_out(values: &[i64], n: usize) -> Found
+// The first of n values that is out of range. Every scan of a stored lattice is this one.
+fn first_out(values: &[i64], n: usize) -> Found
     requires { ⌜ n ≤ length (now values) ⌝ }
     ensures { λ r. ⌜ ((f : ℕ → rule.Refusal) → rule.rangeCheck n (now (values .entry)) f ≡ foundCheck f r) ⌝ }
 {
@@ -123,4 +142,15 @@ pub fn lattice(m: usize, n: usize, values: &[i64]) -> Verdict
         Found::At(i) => Verdict::Refused(Refusal::Range(i)),
         Found::Nowhere => Verdict::Fine,
     }
+}
+
+// 4 and then 6, over a lattice that a caller lends
+pub fn stored(m: usize, n: usize, values: &[i64]) -> Verdict
+    requires { ⌜ (m ≤ 512) × (n ≤ 512) ⌝ }
+    ensures { λ r. ⌜ check r ≡ storedCheck m n (now (values .entry)) ⌝ }
+{
+    if values.len() < (m + 3) * (n + 3) {
+        return Verdict::Refused(Refusal::Short);
+    }
+    lattice(m, n, values)
 }

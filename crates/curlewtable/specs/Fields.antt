@@ -10,7 +10,18 @@ use Rattle.curlewtable.specs.declared.HeightAnswer.{HeightAnswer}
 use Rattle.curlewtable.specs.declared.CountAnswer.{CountAnswer}
 use Rattle.curlewtable.specs.declared.HeaderAnswer.{HeaderAnswer}
 
-abbrev pub cellsFields : rule.Answer calls.Cells → CellsAnswer
+-- the fields of an answer, and the slices as the call leaves them
+pub record Handed (A B : Type 0) : Type 0 where
+  pub fields : A
+  pub slices : B
+
+abbrev pub handed : {A B : Type 0} → A → B → Handed A B
+handed fields slices = record { fields = fields; slices = slices }
+
+abbrev pub inFields : {A B C : Type 0} → (rule.Answer A → C) → rule.Outcome A B → Handed C B
+inFields fields o = handed (fields (o .answered)) (o .slices)
+
+abbrev pub cellsFields : rule.Answer calls.CellCounts → CellsAnswer
 cellsFields (accepted c) = record { number = 0; place = 0; m = c .m; n = c .n }
 cellsFields (refused r) = record { number = rule.number r; place = rule.place r; m = 0; n = 0 }
 

@@ -1,11 +1,12 @@
-// The C boundary: every public function on numbers and slices, with the contract of the function below it. The header is include/curlewtable.h.
+// The C boundary: every call of document 01 on numbers and slices, with the contract of the function below it. The header is include/curlewtable.h.
 ghost use mathlib.Core.Path.{_≡_};
-ghost use Rattle.rules.specs.Fit as fitRule;
+ghost use Rattle.rules.specs.Fit.{shape, survey};
 ghost use Rattle.rules.specs.Calls as calls;
+ghost use Rattle.rules.specs.Demand3.{CloseEverywhere};
 ghost use Rattle.rules.specs.LatticeFile as latticeFile;
 ghost use Rattle.rules.specs.PointFile as pointFile;
-ghost use Rattle.curlewtable.specs.Fields.{cellsFields, heightFields, countFields, headerFields};
-use fit::Fitted;
+ghost use Rattle.curlewtable.specs.Fields.{handed, inFields, cellsFields, heightFields, countFields, headerFields};
+use fit::LatticeFitted;
 use heights::Reading;
 use lattice_file::LatticeRead;
 use lattice_file::LatticeWritten;
@@ -59,20 +60,17 @@ pub extern "C" fn curlew_fit(
     whole: &mut [i64],
     floats: &mut [f64],
 ) -> CellsAnswer
-    ensures { λ r. ⌜ r ≡ cellsFields (calls.fitAnswer (fitRule.shape m0 n0 h) (now (x .entry)) (now (y .entry)) (now (z .entry)) (calls.lent (now (lattice .entry)) (now (residual .entry)) (now (whole .entry)) (now (floats .entry)))) ⌝ }
-    ensures { λ _. ⌜ now (lattice .exit) ≡ calls.fitLeaves (fitRule.shape m0 n0 h) (now (x .entry)) (now (y .entry)) (now (z .entry)) (calls.lent (now (lattice .entry)) (now (residual .entry)) (now (whole .entry)) (now (floats .entry))) .lattice ⌝ }
-    ensures { λ _. ⌜ now (residual .exit) ≡ calls.fitLeaves (fitRule.shape m0 n0 h) (now (x .entry)) (now (y .entry)) (now (z .entry)) (calls.lent (now (lattice .entry)) (now (residual .entry)) (now (whole .entry)) (now (floats .entry))) .residual ⌝ }
-    ensures { λ _. ⌜ now (whole .exit) ≡ calls.fitLeaves (fitRule.shape m0 n0 h) (now (x .entry)) (now (y .entry)) (now (z .entry)) (calls.lent (now (lattice .entry)) (now (residual .entry)) (now (whole .entry)) (now (floats .entry))) .whole ⌝ }
-    ensures { λ _. ⌜ now (floats .exit) ≡ calls.fitLeaves (fitRule.shape m0 n0 h) (now (x .entry)) (now (y .entry)) (now (z .entry)) (calls.lent (now (lattice .entry)) (now (residual .entry)) (now (whole .entry)) (now (floats .entry))) .floats ⌝ }
+    ensures { λ r. ⌜ handed r (calls.lent (now (lattice .exit)) (now (residual .exit)) (now (whole .exit)) (now (floats .exit))) ≡ inFields cellsFields (calls.fitCall (shape m0 n0 h) (survey (now (x .entry)) (now (y .entry)) (now (z .entry))) (calls.lent (now (lattice .entry)) (now (residual .entry)) (now (whole .entry)) (now (floats .entry)))) ⌝ }
+    ensures { λ r. ⌜ (r .number ≡ 0 → CloseEverywhere (shape m0 n0 h) (survey (now (x .entry)) (now (y .entry)) (now (z .entry))) (record { m = r .m; n = r .n }) (now (lattice .exit))) ⌝ }
 {
     match fit::fit(m0, n0, h, x, y, z, lattice, residual, whole, floats) {
-        Fitted::Cells(m, n) => CellsAnswer {
+        LatticeFitted::Cells(m, n) => CellsAnswer {
             number: 0,
             place: 0,
             m,
             n,
         },
-        Fitted::Refused(r) => CellsAnswer {
+        LatticeFitted::Refused(r) => CellsAnswer {
             number: answers::number(r),
             place: answers::place(r),
             m: 0,
@@ -113,8 +111,7 @@ pub extern "C" fn curlew_refine(
     lattice: &[i64],
     output: &mut [i64],
 ) -> CellsAnswer
-    ensures { λ r. ⌜ r ≡ cellsFields (calls.refineAnswer m n (now (lattice .entry)) (now (output .entry))) ⌝ }
-    ensures { λ _. ⌜ now (output .exit) ≡ calls.refineLeaves m n (now (lattice .entry)) (now (output .entry)) ⌝ }
+    ensures { λ r. ⌜ handed r (now (output .exit)) ≡ inFields cellsFields (calls.refineCall m n (now (lattice .entry)) (now (output .entry))) ⌝ }
 {
     match refinement::refine(m, n, lattice, output) {
         Refined::Cells(m2, n2) => CellsAnswer {
@@ -145,8 +142,7 @@ pub extern "C" fn curlew_raster(
     rows: usize,
     output: &mut [i64],
 ) -> CountAnswer
-    ensures { λ r. ⌜ r ≡ countFields (calls.rasterAnswer m n unit (now (lattice .entry)) (calls.nodes x0 y0 step columns rows) (now (output .entry))) ⌝ }
-    ensures { λ _. ⌜ now (output .exit) ≡ calls.rasterLeaves m n unit (now (lattice .entry)) (calls.nodes x0 y0 step columns rows) (now (output .entry)) ⌝ }
+    ensures { λ r. ⌜ handed r (now (output .exit)) ≡ inFields countFields (calls.rasterCall m n unit (now (lattice .entry)) (calls.nodes x0 y0 step columns rows) (now (output .entry))) ⌝ }
 {
     match raster::raster(m, n, unit, lattice, x0, y0, step, columns, rows, output) {
         Sampled::Nodes(q) => CountAnswer {
@@ -164,8 +160,7 @@ pub extern "C" fn curlew_raster(
 
 #[no_mangle]
 pub extern "C" fn curlew_read_lattice(file: &[u8], output: &mut [i64]) -> CellsAnswer
-    ensures { λ r. ⌜ r ≡ cellsFields (latticeFile.readLatticeAnswer (now (file .entry)) (now (output .entry))) ⌝ }
-    ensures { λ _. ⌜ now (output .exit) ≡ latticeFile.readLatticeLeaves (now (file .entry)) (now (output .entry)) ⌝ }
+    ensures { λ r. ⌜ handed r (now (output .exit)) ≡ inFields cellsFields (latticeFile.readLatticeCall (now (file .entry)) (now (output .entry))) ⌝ }
 {
     match lattice_file::read_lattice(file, output) {
         LatticeRead::Cells(m, n) => CellsAnswer {
@@ -190,8 +185,7 @@ pub extern "C" fn curlew_write_lattice(
     lattice: &[i64],
     output: &mut [u8],
 ) -> CountAnswer
-    ensures { λ r. ⌜ r ≡ countFields (latticeFile.writeLatticeAnswer m n (now (lattice .entry)) (now (output .entry))) ⌝ }
-    ensures { λ _. ⌜ now (output .exit) ≡ latticeFile.writeLatticeLeaves m n (now (lattice .entry)) (now (output .entry)) ⌝ }
+    ensures { λ r. ⌜ handed r (now (output .exit)) ≡ inFields countFields (latticeFile.writeLatticeCall m n (now (lattice .entry)) (now (output .entry))) ⌝ }
 {
     match lattice_file::write_lattice(m, n, lattice, output) {
         LatticeWritten::Bytes(b) => CountAnswer {
@@ -214,10 +208,7 @@ pub extern "C" fn curlew_read_points(
     y: &mut [u16],
     z: &mut [i64],
 ) -> HeaderAnswer
-    ensures { λ r. ⌜ r ≡ headerFields (pointFile.readPointsAnswer (now (file .entry)) (now (x .entry)) (now (y .entry)) (now (z .entry))) ⌝ }
-    ensures { λ _. ⌜ now (x .exit) ≡ pointFile.readPointsLeaves (now (file .entry)) (now (x .entry)) (now (y .entry)) (now (z .entry)) .xs ⌝ }
-    ensures { λ _. ⌜ now (y .exit) ≡ pointFile.readPointsLeaves (now (file .entry)) (now (x .entry)) (now (y .entry)) (now (z .entry)) .ys ⌝ }
-    ensures { λ _. ⌜ now (z .exit) ≡ pointFile.readPointsLeaves (now (file .entry)) (now (x .entry)) (now (y .entry)) (now (z .entry)) .zs ⌝ }
+    ensures { λ r. ⌜ handed r (survey (now (x .exit)) (now (y .exit)) (now (z .exit))) ≡ inFields headerFields (pointFile.readPointsCall (now (file .entry)) (survey (now (x .entry)) (now (y .entry)) (now (z .entry)))) ⌝ }
 {
     match point_file::read_points(file, x, y, z) {
         PointsRead::Header(a) => HeaderAnswer {
@@ -249,8 +240,7 @@ pub extern "C" fn curlew_write_points(
     z: &[i64],
     output: &mut [u8],
 ) -> CountAnswer
-    ensures { λ r. ⌜ r ≡ countFields (pointFile.writePointsAnswer (fitRule.shape m0 n0 h) (now (x .entry)) (now (y .entry)) (now (z .entry)) (now (output .entry))) ⌝ }
-    ensures { λ _. ⌜ now (output .exit) ≡ pointFile.writePointsLeaves (fitRule.shape m0 n0 h) (now (x .entry)) (now (y .entry)) (now (z .entry)) (now (output .entry)) ⌝ }
+    ensures { λ r. ⌜ handed r (now (output .exit)) ≡ inFields countFields (pointFile.writePointsCall (shape m0 n0 h) (survey (now (x .entry)) (now (y .entry)) (now (z .entry))) (now (output .entry))) ⌝ }
 {
     match point_file::write_points(m0, n0, h, x, y, z, output) {
         PointsWritten::Bytes(b) => CountAnswer {

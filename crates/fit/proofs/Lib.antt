@@ -1,5 +1,1 @@
-mod Sizes
-mod Settling
-mod Raising
-mod Stepping
 mod Answering

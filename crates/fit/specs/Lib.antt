@@ -1,3 +1,1 @@
-pub mod Fitted
-pub mod Scratch
-pub mod Demand3
+pub mod LatticeFitted

@@ -1,152 +1,47 @@
-// The whole fit: from points to one lattice, level by level, in the caller's scratch.
-// Whole scratch, with K control values at level h: the running lattice after an even level at 0, after an odd one at K; the level lattice at 2K;
-// the residuals at 3K. Lattice and residuals of the caller are written once, at the end, so that a refusal leaves them as they were.
+// The whole fit: from points to one lattice, behind document 01's checks, in slices that the caller lends.
+// Lattice and residuals are written once, at the end, so that a refusal leaves them as they were; then the scratch is cleared.
 ghost use mathlib.Core.Path.{_≡_};
-ghost use mathlib.Core.Bool.{_&&_};
-ghost use mathlib.Core.List.{List};
-ghost use Prim.Native.Nat.{ℕ, _+_, _*_, _≤_};
-ghost use lib.Dec.{leb};
-ghost use lib.ListN.{length, drop};
-ghost use Rattle.rules.specs.Answers as answer;
-ghost use Rattle.rules.specs.Grid.{cellsAt};
-ghost use Rattle.rules.specs.Level.{Point};
-ghost use Rattle.rules.specs.Fit as rule;
-ghost use Rattle.rules.specs.Calls as calls;
-ghost use Rattle.rules.specs.Laws.Checks.{AllInRange};
+ghost use Prim.Native.Nat.{_+_, _*_, _%_, _≤_};
+ghost use lib.ListN.{length};
+ghost use Rattle.algebra.specs.Table.{over, area};
+ghost use Rattle.rules.specs.Answers.{outcome};
+ghost use Rattle.rules.specs.Fit.{shape, survey, levelsCheck};
+ghost use Rattle.rules.specs.Calls.{lent, roomCheck, cleared, fitEnd, fitCall};
+ghost use Rattle.rules.specs.Demand3.{Demand3};
 ghost use Rattle.answers.specs.Cause.{check};
-ghost use Rattle.fit.specs.Fitted.{told, levelsAnswer};
-ghost use Rattle.fit.specs.Scratch.{Sized, Ready, Before, Rising, Settled, Raised, Stepped, Levelled};
-ghost use Rattle.rules.specs.Laws.Fit.{residualList};
+ghost use Rattle.levels.specs.Scratch.{Levelable};
+ghost use Rattle.fit.specs.LatticeFitted.{told};
 use answers::Refusal;
 use answers::Verdict;
 
-pub enum Fitted {
+pub enum LatticeFitted {
     Cells(usize, usize),
     Refused(Refusal),
 }
 
-// "Level k has m = m0 × 2^k by n = n0 × 2^k cells"
-fn cells(coarsest: usize, k: usize) -> usize
-    requires { ⌜ (coarsest ≤ 16) × (k ≤ 5) ⌝ }
-    ensures { λ r. ⌜ r ≡ cellsAt coarsest k ⌝ }
-{
-    coarsest << k
-}
-
-// Level lattice k, fitted to the residuals, and then the residuals less its heights: all quotients, then all residuals.
-fn settle_level(
-    m0: usize,
-    n0: usize,
+// The single lattice and the last residuals, from their areas to the caller's slices.
+fn deliver(
     h: usize,
-    k: usize,
     most: usize,
-    xs: &[u16],
-    ys: &[u16],
-    whole: &mut [i64],
-    floats: &mut [f64],
-) -> Verdict
-    requires { ⌜ Ready (rule.shape m0 n0 h) most (now xs) (now ys) (length (now whole)) (length (now floats)) × (k ≤ h) ⌝ }
-    requires { ⌜ ((points : List Point) × Before (rule.shape m0 n0 h) points most k (now xs) (now ys) (now whole)) ⌝ }
-    ensures { λ r. ⌜ ((points : List Point) → Before (rule.shape m0 n0 h) points most k (now (xs .entry)) (now (ys .entry)) (now (whole .entry)) → Settled (rule.shape m0 n0 h) points most k (check r) (now (whole .exit))) ⌝ }
-    ensures { λ _. ⌜ drop (3 * most + length (now (xs .entry))) (now (whole .exit)) ≡ drop (3 * most + length (now (xs .entry))) (now (whole .entry)) ⌝ }
-    ensures { λ _. ⌜ drop (2 * most) (now (floats .exit)) ≡ drop (2 * most) (now (floats .entry)) ⌝ }
+    p: usize,
+    whole: &[i64],
+    lattice: &mut [i64],
+    residual: &mut [i64],
+)
+    requires { ⌜ (most ≤ 265_225) × (3 * most + p ≤ length (now whole)) × (most ≤ length (now lattice)) × (p ≤ length (now residual)) ⌝ }
+    ensures { λ _. ⌜ now (lattice .exit) ≡ over (area (h % 2 * most) most (now (whole .entry))) (now (lattice .entry)) ⌝ }
+    ensures { λ _. ⌜ now (residual .exit) ≡ over (area (3 * most) p (now (whole .entry))) (now (residual .entry)) ⌝ }
 {
-    let m = cells(m0, k);
-    let n = cells(n0, k);
-    let e = (4 + h - k) as u32;
-    let count = (m + 3) * (n + 3);
-    let level = 2 * most;
-    let level_end = level + count;
+    let from = h % 2 * most;
+    let to = from + most;
+    fit_steps::copy(most, &whole[from..to], lattice);
     let residuals = 3 * most;
-    let end = residuals + xs.len();
-    level_fit::gather(m, n, e, xs, ys, &whole[residuals..end], floats);
-    if !level_fit::settle_all(count, floats, &mut whole[level..level_end]) {
-        return Verdict::Refused(Refusal::Quotient(k));
-    }
-    if !fit_steps::lower(m, n, e, xs, ys, whole, level, residuals) {
-        return Verdict::Refused(Refusal::Residual(k));
-    }
-    Verdict::Fine
+    let end = residuals + p;
+    fit_steps::copy(p, &whole[residuals..end], residual);
 }
 
-// The running lattice of level k: level lattice 0, or the running lattice before it, refined, and level lattice k added.
-fn raise_level(m0: usize, n0: usize, k: usize, most: usize, whole: &mut [i64]) -> Verdict
-    requires { ⌜ Sized m0 n0 k most × (3 * most ≤ length (now whole)) ⌝ }
-    requires { ⌜ ((h : ℕ) × (points : List Point) × Rising (rule.shape m0 n0 h) points most k (now whole)) ⌝ }
-    ensures { λ r. ⌜ ((h : ℕ) (points : List Point) → Rising (rule.shape m0 n0 h) points most k (now (whole .entry)) → Raised (rule.shape m0 n0 h) points most k (check r) (now (whole .exit))) ⌝ }
-    ensures { λ _. ⌜ drop (2 * most) (now (whole .exit)) ≡ drop (2 * most) (now (whole .entry)) ⌝ }
-{
-    let count = (cells(m0, k) + 3) * (cells(n0, k) + 3);
-    let level = 2 * most;
-    if k == 0 {
-        fit_steps::copy_within(count, whole, level, 0);
-        return Verdict::Fine;
-    }
-    let from = (k - 1) % 2 * most;
-    let to = k % 2 * most;
-    fit_steps::refine_at(cells(m0, k - 1), cells(n0, k - 1), whole, from, to);
-    if !fit_steps::add(count, whole, level, to) {
-        return Verdict::Refused(Refusal::Sum(k));
-    }
-    Verdict::Fine
-}
-
-// One level: all quotients, then all residuals, then all sums.
-fn fit_level(
-    m0: usize,
-    n0: usize,
-    h: usize,
-    k: usize,
-    most: usize,
-    xs: &[u16],
-    ys: &[u16],
-    whole: &mut [i64],
-    floats: &mut [f64],
-) -> Verdict
-    requires { ⌜ Ready (rule.shape m0 n0 h) most (now xs) (now ys) (length (now whole)) (length (now floats)) × (k ≤ h) ⌝ }
-    requires { ⌜ ((points : List Point) × Before (rule.shape m0 n0 h) points most k (now xs) (now ys) (now whole)) ⌝ }
-    ensures { λ r. ⌜ ((points : List Point) → Before (rule.shape m0 n0 h) points most k (now (xs .entry)) (now (ys .entry)) (now (whole .entry)) → Stepped (rule.shape m0 n0 h) points most k (now (xs .entry)) (now (ys .entry)) (check r) (now (whole .exit))) ⌝ }
-    ensures { λ _. ⌜ drop (3 * most + length (now (xs .entry))) (now (whole .exit)) ≡ drop (3 * most + length (now (xs .entry))) (now (whole .entry)) ⌝ }
-    ensures { λ _. ⌜ drop (2 * most) (now (floats .exit)) ≡ drop (2 * most) (now (floats .entry)) ⌝ }
-{
-    if let Verdict::Refused(r) = settle_level(m0, n0, h, k, most, xs, ys, whole, floats) {
-        return Verdict::Refused(r);
-    }
-    raise_level(m0, n0, k, most, whole)
-}
-
-// Levels 0 to h. "Residuals start as z".
-fn fit_levels(
-    m0: usize,
-    n0: usize,
-    h: usize,
-    most: usize,
-    xs: &[u16],
-    ys: &[u16],
-    zs: &[i64],
-    whole: &mut [i64],
-    floats: &mut [f64],
-) -> Verdict
-    requires { ⌜ Ready (rule.shape m0 n0 h) most (now xs) (now ys) (length (now whole)) (length (now floats)) ⌝ }
-    requires { ⌜ (length (now zs) ≡ length (now xs)) × AllInRange (length (now xs)) (now zs) ⌝ }
-    ensures { λ r. ⌜ Levelled (rule.shape m0 n0 h) (rule.pointsOf (now (xs .entry)) (now (ys .entry)) (now (zs .entry))) most (check r) (now (whole .exit)) ⌝ }
-    ensures { λ _. ⌜ drop (3 * most + length (now (xs .entry))) (now (whole .exit)) ≡ drop (3 * most + length (now (xs .entry))) (now (whole .entry)) ⌝ }
-    ensures { λ _. ⌜ drop (2 * most) (now (floats .exit)) ≡ drop (2 * most) (now (floats .entry)) ⌝ }
-{
-    let residuals = 3 * most;
-    let end = residuals + xs.len();
-    fit_steps::copy(xs.len(), zs, &mut whole[residuals..end]);
-    let mut k = 0;
-    while k <= h {
-        if let Verdict::Refused(r) = fit_level(m0, n0, h, k, most, xs, ys, whole, floats) {
-            return Verdict::Refused(r);
-        }
-        k += 1;
-    }
-    Verdict::Fine
-}
-
-// The levels of a survey whose checks have passed; on acceptance the results, in the caller's slices.
+// "Residuals start as z", and then the levels of a survey whose checks have passed; on acceptance the results, in the caller's slices. The scratch is left to be
+// cleared, so the promise speaks of the slices as they are once that is done.
 fn run(
     m0: usize,
     n0: usize,
@@ -159,26 +54,18 @@ fn run(
     residual: &mut [i64],
     whole: &mut [i64],
     floats: &mut [f64],
-) -> Fitted
-    requires { ⌜ Ready (rule.shape m0 n0 h) most (now xs) (now ys) (length (now whole)) (length (now floats)) ⌝ }
-    requires { ⌜ (length (now zs) ≡ length (now xs)) × AllInRange (length (now xs)) (now zs) ⌝ }
-    requires { ⌜ (most ≡ calls.K (rule.shape m0 n0 h)) × (most ≤ length (now lattice)) × (length (now xs) ≤ length (now residual)) ⌝ }
-    ensures { λ r. ⌜ told r ≡ levelsAnswer (rule.shape m0 n0 h) (rule.pointsOf (now (xs .entry)) (now (ys .entry)) (now (zs .entry))) ⌝ }
-    ensures { λ _. ⌜ now (lattice .exit) ≡ answer.left (levelsAnswer (rule.shape m0 n0 h) (rule.pointsOf (now (xs .entry)) (now (ys .entry)) (now (zs .entry)))) (rule.running (rule.shape m0 n0 h) (rule.pointsOf (now (xs .entry)) (now (ys .entry)) (now (zs .entry))) h) (now (lattice .entry)) ⌝ }
-    ensures { λ _. ⌜ now (residual .exit) ≡ answer.left (levelsAnswer (rule.shape m0 n0 h) (rule.pointsOf (now (xs .entry)) (now (ys .entry)) (now (zs .entry)))) (residualList (rule.shape m0 n0 h) (rule.pointsOf (now (xs .entry)) (now (ys .entry)) (now (zs .entry))) (h + 1)) (now (residual .entry)) ⌝ }
-    ensures { λ _. ⌜ drop (3 * most + length (now (xs .entry))) (now (whole .exit)) ≡ drop (3 * most + length (now (xs .entry))) (now (whole .entry)) ⌝ }
-    ensures { λ _. ⌜ drop (2 * most) (now (floats .exit)) ≡ drop (2 * most) (now (floats .entry)) ⌝ }
+) -> LatticeFitted
+    requires { ⌜ Levelable (shape m0 n0 h) (survey (now xs) (now ys) (now zs)) most (length (now whole)) (length (now floats)) × (most ≤ length (now lattice)) × (length (now xs) ≤ length (now residual)) ⌝ }
+    ensures { λ r. ⌜ outcome (told r) (cleared (shape m0 n0 h) (length (now (xs .entry))) (lent (now (lattice .exit)) (now (residual .exit)) (now (whole .exit)) (now (floats .exit)))) ≡ fitEnd (shape m0 n0 h) (survey (now (xs .entry)) (now (ys .entry)) (now (zs .entry))) (lent (now (lattice .entry)) (now (residual .entry)) (now (whole .entry)) (now (floats .entry))) (levelsCheck (shape m0 n0 h) (survey (now (xs .entry)) (now (ys .entry)) (now (zs .entry)))) ⌝ }
 {
-    if let Verdict::Refused(r) = fit_levels(m0, n0, h, most, xs, ys, zs, whole, floats) {
-        return Fitted::Refused(r);
-    }
-    let from = h % 2 * most;
-    let to = from + most;
-    fit_steps::copy(most, &whole[from..to], lattice);
     let residuals = 3 * most;
     let end = residuals + xs.len();
-    fit_steps::copy(xs.len(), &whole[residuals..end], residual);
-    Fitted::Cells(cells(m0, h), cells(n0, h))
+    fit_steps::copy(xs.len(), zs, &mut whole[residuals..end]);
+    if let Verdict::Refused(r) = levels::fit_levels(m0, n0, h, most, xs, ys, whole, floats) {
+        return LatticeFitted::Refused(r);
+    }
+    deliver(h, most, xs.len(), whole, lattice, residual);
+    LatticeFitted::Cells(levels::cells(m0, h), levels::cells(n0, h))
 }
 
 // 4: "For p points the caller lends at least: lattice K, residuals p, whole scratch 3K+p, f64 scratch 2K".
@@ -191,7 +78,7 @@ fn room(
     floats: usize,
 ) -> Verdict
     requires { ⌜ (most ≤ 265_225) × (p ≤ 65_535) ⌝ }
-    ensures { λ r. ⌜ check r ≡ answer.require (leb most lattice && leb p residual && leb (3 * most + p) whole && leb (2 * most) floats) answer.short ⌝ }
+    ensures { λ r. ⌜ check r ≡ roomCheck most p lattice residual whole floats ⌝ }
 {
     if lattice < most {
         return Verdict::Refused(Refusal::Short);
@@ -208,6 +95,7 @@ fn room(
     Verdict::Fine
 }
 
+// A fit, behind document 01's checks in their order. After them the scratch is used, and cleared whatever the levels answer.
 pub fn fit(
     m0: usize,
     n0: usize,
@@ -219,18 +107,15 @@ pub fn fit(
     residual: &mut [i64],
     whole: &mut [i64],
     floats: &mut [f64],
-) -> Fitted
-    ensures { λ r. ⌜ told r ≡ calls.fitAnswer (rule.shape m0 n0 h) (now (xs .entry)) (now (ys .entry)) (now (zs .entry)) (calls.lent (now (lattice .entry)) (now (residual .entry)) (now (whole .entry)) (now (floats .entry))) ⌝ }
-    ensures { λ _. ⌜ now (lattice .exit) ≡ calls.fitLeaves (rule.shape m0 n0 h) (now (xs .entry)) (now (ys .entry)) (now (zs .entry)) (calls.lent (now (lattice .entry)) (now (residual .entry)) (now (whole .entry)) (now (floats .entry))) .lattice ⌝ }
-    ensures { λ _. ⌜ now (residual .exit) ≡ calls.fitLeaves (rule.shape m0 n0 h) (now (xs .entry)) (now (ys .entry)) (now (zs .entry)) (calls.lent (now (lattice .entry)) (now (residual .entry)) (now (whole .entry)) (now (floats .entry))) .residual ⌝ }
-    ensures { λ _. ⌜ now (whole .exit) ≡ calls.fitLeaves (rule.shape m0 n0 h) (now (xs .entry)) (now (ys .entry)) (now (zs .entry)) (calls.lent (now (lattice .entry)) (now (residual .entry)) (now (whole .entry)) (now (floats .entry))) .whole ⌝ }
-    ensures { λ _. ⌜ now (floats .exit) ≡ calls.fitLeaves (rule.shape m0 n0 h) (now (xs .entry)) (now (ys .entry)) (now (zs .entry)) (calls.lent (now (lattice .entry)) (now (residual .entry)) (now (whole .entry)) (now (floats .entry))) .floats ⌝ }
+) -> LatticeFitted
+    ensures { λ r. ⌜ outcome (told r) (lent (now (lattice .exit)) (now (residual .exit)) (now (whole .exit)) (now (floats .exit))) ≡ fitCall (shape m0 n0 h) (survey (now (xs .entry)) (now (ys .entry)) (now (zs .entry))) (lent (now (lattice .entry)) (now (residual .entry)) (now (whole .entry)) (now (floats .entry))) ⌝ }
+    ensures { λ r. ⌜ Demand3 (shape m0 n0 h) (survey (now (xs .entry)) (now (ys .entry)) (now (zs .entry))) (told r) (now (lattice .exit)) ⌝ }
 {
     if let Verdict::Refused(r) = survey::head(m0, n0, h, xs, ys, zs) {
-        return Fitted::Refused(r);
+        return LatticeFitted::Refused(r);
     }
-    let m = cells(m0, h);
-    let n = cells(n0, h);
+    let m = levels::cells(m0, h);
+    let n = levels::cells(n0, h);
     let most = (m + 3) * (n + 3);
     let p = xs.len();
     if let Verdict::Refused(r) = room(
@@ -241,10 +126,10 @@ pub fn fit(
         whole.len(),
         floats.len(),
     ) {
-        return Fitted::Refused(r);
+        return LatticeFitted::Refused(r);
     }
     if let Verdict::Refused(r) = survey::points(m, n, xs, ys, zs) {
-        return Fitted::Refused(r);
+        return LatticeFitted::Refused(r);
     }
     let answer = run(
         m0,
@@ -260,6 +145,6 @@ pub fn fit(
         floats,
     );
     fit_steps::clear(3 * most + p, whole);
-    level_fit::clear(floats, 2 * most);
+    level_fit::clear(2 * most, floats);
     answer
 }

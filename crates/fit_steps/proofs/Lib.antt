@@ -1,2 +1,2 @@
-mod Partly
+mod Entries
 mod Tested

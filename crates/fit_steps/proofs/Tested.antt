@@ -7,13 +7,13 @@ use native.Mathlib.Omega.{arith}
 use borrow.Author.Tests.{not-true, not-false}
 use lib.Dec.{T}
 use lib.IntN.{ℤ, pos}
-use lib.ListN.{length, getD, drop, set}
-use Rattle.algebra.specs.Table.{tabulate, laid, getD-tabulate}
+use lib.ListN.{length, getD, set}
+use Rattle.algebra.specs.Table.{Free, tabulate, length-tabulate, getD-tabulate, free-laid}
 use Rattle.rules.specs.Grid.{inRange}
-use Rattle.rules.specs.Answers.{Refusal, rangeCheck, firstOf}
+use Rattle.rules.specs.Answers.{rangeCheck, firstOf}
 use Rattle.rules.specs.Laws.Checks.{NoneOut, noneOut-more, noneOut-at}
-use Rattle.answers.specs.Cause.{okCheck}
-use Rattle.fit_steps.proofs.Partly.{Partly, begun, stored, rest-kept, finished}
+use Rattle.algebra.specs.Partly.{Partly, begun, stored, finished}
+use Rattle.fit_steps.specs.Steps.{Written}
 
 -- l is the scratch d with the first i of count values f laid from n on, none of them out of range
 pub record Tested (n count i : ℕ) (f : ℕ → ℤ) (d l : List ℤ) : Type 0 where
@@ -21,19 +21,13 @@ pub record Tested (n count i : ℕ) (f : ℕ → ℤ) (d l : List ℤ) : Type 0 
   pub partly : Partly n i f d l
   pub none-out : NoneOut i (tabulate count f)
 
--- what the step answers, and what it leaves
-abbrev pub Ends : Bool → ℕ → ℕ → (ℕ → ℤ) → List ℤ → List ℤ → Type 0
-Ends ok n count f d l =
-    ((r : Refusal) → rangeCheck count (tabulate count f) (λ i. r) ≡ okCheck ok r)
-    × ((T ok → l ≡ laid n (tabulate count f) d) × ((length l ≡ length d) × (drop (n + count) l ≡ drop (n + count) d)))
-
 pub untested : (n count : ℕ) (f : ℕ → ℤ) (d : List ℤ) → Tested n count 0 f d d
 unfolding rangeCheck firstOf
 untested n count f d = record { within = omega arith; partly = begun n 0 f d refl; none-out = λ r. refl }
 
 module _ {n count i : ℕ} {f : ℕ → ℤ} {d l : List ℤ} (p : Tested n count i f d l) (room : n + count ≤ length d) where
-  rest : drop (n + count) l ≡ drop (n + count) d
-  rest = rest-kept (p .partly) (n + count) (omega arith) (omega (arith, p .within))
+  free : Free n count d l
+  free = rw (p .partly .is) (free-laid n count (tabulate i f) d (rw (length-tabulate i f) (p .within)) room)
 
   -- x is the next value, and b what `in_range` says of it
   module _ {x : ℤ} {b : Bool} (h : i < count) (is : x ≡ f i) (told : b ≡ inRange x) where
@@ -47,10 +41,10 @@ module _ {n count i : ℕ} {f : ℕ → ℤ} {d l : List ℤ} (p : Tested n coun
       none-out = noneOut-more i (tabulate count f) (p .none-out) (subst T (sym (not-false b t) ∙ test) tt);
     }
 
-    pub refused : not b ≡ true → Ends false n count f d l
-    refused t = (λ r. noneOut-at count i (tabulate count f) (p .none-out) h (sym test ∙ not-true b t) (λ i. r), (λ t. absurd t, (p .partly .long, rest)))
+    pub refused : not b ≡ true → Written false n count (tabulate count f) d l
+    refused t = record { found = λ r. noneOut-at count i (tabulate count f) (p .none-out) h (sym test ∙ not-true b t) (λ i. r); is = λ t. absurd t; free = free }
 
-  pub accepted : count ≤ i → Ends true n count f d l
+  pub accepted : count ≤ i → Written true n count (tabulate count f) d l
   accepted h =
       let e : i ≡ count = omega (arith, p .within) in
-      (λ r. rw e at (p .none-out (λ i. r)), (λ t. finished (p .partly) e refl, (p .partly .long, rest)))
+      record { found = λ r. rw e at (p .none-out (λ i. r)); is = λ t. finished (p .partly) e refl; free = free }

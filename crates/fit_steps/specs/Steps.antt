@@ -1,40 +1,50 @@
 -- What the steps' contracts cite beside the rules.
-use Prim.Native.Nat.{ℕ, _+_, _*_, _^_, _≤_, _<_}
+use Prim.Native.Nat.{ℕ, _+_, _^_, _≤_, _<_}
 use mathlib.Core.Path.{_≡_}
+use mathlib.Core.Bool.{Bool}
 use mathlib.Core.List.{List}
-use lib.IntN.{ℤ, pos, natAbs, _+ℤ_, _-ℤ_}
+use lib.Dec.{T}
+use lib.IntN.{ℤ, pos, _+ℤ_, _-ℤ_}
 use lib.ListN.{length, getD}
-use Rattle.algebra.specs.Table.{tabulate, area}
-use Rattle.rules.specs.Grid.{limit, controls, control}
+use Rattle.algebra.specs.Table.{tabulate, area, laid, Free}
+use Rattle.rules.specs.Grid.{controls, control}
 use Rattle.rules.specs.Surface.{height}
+use Rattle.rules.specs.Answers.{Refusal, rangeCheck}
+use Rattle.rules.specs.Fit.{Survey, survey, pointCount, pointAt}
 use Rattle.rules.specs.Laws.Checks.{AllInRange}
+use Rattle.rules.specs.Laws.Passed.{Placed}
+use Rattle.answers.specs.Cause.{okCheck}
+use Rattle.checks.specs.Passed.{Gridded}
 
--- residual i less the height of the level lattice at its point
-abbrev pub loweredAt : ℕ → ℕ → ℕ → List ℕ → List ℕ → List ℤ → ℕ → ℕ → ℕ → ℤ
-loweredAt m n e xs ys whole level residuals i =
-    getD whole (residuals + i) (pos 0) -ℤ height (2 ^ e) m n (control m (area level (controls m n) whole)) (getD xs i 0) (getD ys i 0)
+-- a survey whose values stand in scratch, from place n on
+abbrev pub surveyAt : List ℕ → List ℕ → ℕ → List ℤ → Survey
+surveyAt xs ys n whole = survey xs ys (area n (length xs) whole)
 
-unfoldable pub lowered : ℕ → ℕ → ℕ → List ℕ → List ℕ → List ℤ → ℕ → ℕ → List ℤ
-lowered m n e xs ys whole level residuals = tabulate (length xs) (loweredAt m n e xs ys whole level residuals)
+-- a value less the height of a lattice, of m by n cells of 2^e positions, at its point
+abbrev pub lessHeight : ℕ → ℕ → ℕ → List ℤ → Survey → ℕ → ℤ
+lessHeight m n e lattice s i = pointAt s i .z -ℤ height (2 ^ e) m n (control m lattice) (pointAt s i .x) (pointAt s i .y)
 
--- the sum of what stands at place q of two areas
-abbrev pub summedAt : List ℤ → ℕ → ℕ → ℕ → ℤ
-summedAt whole level to q = getD whole (to + q) (pos 0) +ℤ getD whole (level + q) (pos 0)
+unfoldable pub lessHeights : ℕ → ℕ → ℕ → List ℤ → Survey → List ℤ
+lessHeights m n e lattice s = tabulate (pointCount s) (lessHeight m n e lattice s)
 
-unfoldable pub summed : ℕ → List ℤ → ℕ → ℕ → List ℤ
-summed count whole level to = tabulate count (summedAt whole level to)
+-- two lattices added
+abbrev pub sumAt : List ℤ → List ℤ → ℕ → ℤ
+sumAt lattice added q = getD lattice q (pos 0) +ℤ getD added q (pos 0)
+
+unfoldable pub summed : ℕ → List ℤ → List ℤ → List ℤ
+summed count lattice added = tabulate count (sumAt lattice added)
 
 -- points, a level lattice and residuals that the lattice can be read at and taken from
 pub record Lowerable (m n e : ℕ) (xs ys : List ℕ) (whole : List ℤ) (level residuals : ℕ) : Type 0 where
-  pub columns : 0 < m
-  pub columns-most : m ≤ 512
-  pub rows : 0 < n
-  pub rows-most : n ≤ 512
-  pub exponent : e ≤ 9
-  pub as-many : length ys ≡ length xs
-  pub x-inside : (i : ℕ) → i < length xs → getD xs i 0 ≤ 2 ^ e * m
-  pub y-inside : (i : ℕ) → i < length xs → getD ys i 0 ≤ 2 ^ e * n
+  pub grid : Gridded m n e
+  pub as-many-y : length ys ≡ length xs
+  pub placed : (i : ℕ) → i < length xs → Placed (2 ^ e) m n (surveyAt xs ys residuals whole) i
   pub apart : level + controls m n ≤ residuals
-  pub long : residuals + length xs ≤ length whole
+  pub room : residuals + length xs ≤ length whole
   pub level-ranged : AllInRange (controls m n) (area level (controls m n) whole)
-  pub residuals-ranged : (i : ℕ) → i < length xs → natAbs (getD whole (residuals + i) (pos 0)) ≤ limit
+
+-- what a step answers and leaves that writes count values from place n on: it says no at the first that is out of range, and its places are then free
+pub record Written (ok : Bool) (n count : ℕ) (values before after : List ℤ) : Type 0 where
+  pub found : (r : Refusal) → rangeCheck count values (λ i. r) ≡ okCheck ok r
+  pub is : T ok → after ≡ laid n values before
+  pub free : Free n count before after

@@ -1,17 +1,14 @@
 // The steps of a level in the scratch of whole numbers: areas of one lent slice, each given by its first place.
-// A step that can meet a value out of range says so by false; the scratch is then of no account to anybody but for its length and what lies past its areas.
+// A step that can meet a value out of range says so by false; the places that it writes are then free.
 ghost use mathlib.Core.Path.{_≡_};
 ghost use Prim.Native.Nat.{_+_, _*_, _≤_, _<_};
-ghost use lib.Dec.{T};
 ghost use lib.IntN.{pos};
-ghost use lib.ListN.{length, take, drop, replicate};
+ghost use lib.ListN.{length, take, replicate};
 ghost use Rattle.algebra.specs.Table.{Apart, over, laid, area};
-ghost use Rattle.rules.specs.Answers as answer;
 ghost use Rattle.rules.specs.Grid.{controls, control, store};
 ghost use Rattle.rules.specs.Refinement.{refined};
 ghost use Rattle.rules.specs.Laws.Checks.{AllInRange};
-ghost use Rattle.answers.specs.Cause.{okCheck};
-ghost use Rattle.fit_steps.specs.Steps.{lowered, summed, Lowerable};
+ghost use Rattle.fit_steps.specs.Steps.{surveyAt, lessHeights, summed, Lowerable, Written};
 
 // "take from each residual the height of level lattice k there": false where a residual leaves its range
 pub fn lower(
@@ -25,9 +22,7 @@ pub fn lower(
     residuals: usize,
 ) -> bool
     requires { ⌜ Lowerable m n e (now xs) (now ys) (now whole) level residuals ⌝ }
-    ensures { λ ok. ⌜ ((r : answer.Refusal) → answer.rangeCheck (length (now (xs .entry))) (lowered m n e (now (xs .entry)) (now (ys .entry)) (now (whole .entry)) level residuals) (λ i. r) ≡ okCheck ok r) ⌝ }
-    ensures { λ ok. ⌜ (T ok → now (whole .exit) ≡ laid residuals (lowered m n e (now (xs .entry)) (now (ys .entry)) (now (whole .entry)) level residuals) (now (whole .entry))) ⌝ }
-    ensures { λ _. ⌜ (length (now (whole .exit)) ≡ length (now (whole .entry))) × (drop (residuals + length (now (xs .entry))) (now (whole .exit)) ≡ drop (residuals + length (now (xs .entry))) (now (whole .entry))) ⌝ }
+    ensures { λ ok. ⌜ Written ok residuals (length (now (xs .entry))) (lessHeights m n e (area level (controls m n) (now (whole .entry))) (surveyAt (now (xs .entry)) (now (ys .entry)) residuals (now (whole .entry)))) (now (whole .entry)) (now (whole .exit)) ⌝ }
 {
     let end = level + (m + 3) * (n + 3);
     let mut i = 0;
@@ -75,9 +70,7 @@ pub fn refine_at(m: usize, n: usize, whole: &mut [i64], from: usize, to: usize)
 pub fn add(count: usize, whole: &mut [i64], level: usize, to: usize) -> bool
     requires { ⌜ (level + count ≤ length (now whole)) × (to + count ≤ level) ⌝ }
     requires { ⌜ AllInRange count (area level count (now whole)) × AllInRange count (area to count (now whole)) ⌝ }
-    ensures { λ ok. ⌜ ((r : answer.Refusal) → answer.rangeCheck count (summed count (now (whole .entry)) level to) (λ i. r) ≡ okCheck ok r) ⌝ }
-    ensures { λ ok. ⌜ (T ok → now (whole .exit) ≡ laid to (summed count (now (whole .entry)) level to) (now (whole .entry))) ⌝ }
-    ensures { λ _. ⌜ (length (now (whole .exit)) ≡ length (now (whole .entry))) × (drop (to + count) (now (whole .exit)) ≡ drop (to + count) (now (whole .entry))) ⌝ }
+    ensures { λ ok. ⌜ Written ok to count (summed count (area to count (now (whole .entry))) (area level count (now (whole .entry)))) (now (whole .entry)) (now (whole .exit)) ⌝ }
 {
     let mut q = 0;
     while q < count {

@@ -11,7 +11,7 @@ use Rattle.algebra.specs.Difference.{posPart, negPart, split, whole}
 use Rattle.rules.specs.Grid.{limit, inRange}
 use Rattle.rules.specs.Rounding.{near}
 use Rattle.rules.specs.Level.{kept}
-use Rattle.rules.specs.Laws.Rounding.{Nearest, near-nearest, nearest-unique}
+use Rattle.rules.specs.Laws.Rounding.{WithinHalf, Nearest, nearest-below, below-tie, near-nearest, nearest-unique, near-distance}
 
 -- v / d compares with n + 1/2 and with n - 1/2 as 2v with these two
 abbrev pub over : ℤ → ℕ → ℤ
@@ -20,33 +20,48 @@ over n d = (pos 2 *ℤ n +ℤ pos 1) *ℤ pos d
 abbrev pub under : ℤ → ℕ → ℤ
 under n d = (pos 2 *ℤ n -ℤ pos 1) *ℤ pos d
 
--- the whole number n is no more than 1/2 away
-pub record Close (v : ℤ) (d : ℕ) (n : ℤ) : Type 0 where
-  pub low : under n d ≤ℤ (pos 2 *ℤ v)
-  pub high : (pos 2 *ℤ v) ≤ℤ over n d
-
 -- v / d is no less than -limit - 1/2 and below limit + 1/2: what has a near in range
 pub record Ranged (v : ℤ) (d : ℕ) : Type 0 where
   pub low : under (negℤ (pos limit)) d ≤ℤ (pos 2 *ℤ v)
   pub high : (pos 2 *ℤ v) <ℤ over (pos limit) d
 
--- ---- sizes
+-- ---- by the distance alone
 
-pub close-size : {v : ℤ} {d : ℕ} {n : ℤ} → 0 < d → Close v d n → Ranged v d → natAbs n ≤ limit + 1
-close-size {v} {d} {n} p h r = go v n (h .low) (h .high) (r .low) (r .high)
+pub close-size : (v : ℤ) (d : ℕ) (n : ℤ) → 0 < d → WithinHalf v d n → Ranged v d → natAbs n ≤ limit + 1
+close-size v d n p h r = go v n h (r .low) (r .high)
   where
-    go : (v n : ℤ) → under n d ≤ℤ (pos 2 *ℤ v) → (pos 2 *ℤ v) ≤ℤ over n d → under (negℤ (pos limit)) d ≤ℤ (pos 2 *ℤ v) → (pos 2 *ℤ v) <ℤ over (pos limit) d → natAbs n ≤ limit + 1
+    go : (v n : ℤ) → WithinHalf v d n → under (negℤ (pos limit)) d ≤ℤ (pos 2 *ℤ v) → (pos 2 *ℤ v) <ℤ over (pos limit) d → natAbs n ≤ limit + 1
     go v n =
         rw (split v, split n)
-        (simp whole (λ a b l h.
+        (simp whole (λ a l h.
         let x : posPart n < negPart n + (limit + 2) = lt-of-mul-lt-mul-left d (omega arith) in
         let y : negPart n < posPart n + (limit + 2) = lt-of-mul-lt-mul-left d (omega arith) in
         omega arith))
 
-nearest-size : {v : ℤ} {d : ℕ} {n : ℤ} → Nearest v d n → Ranged v d → natAbs n ≤ limit
-nearest-size {v} {d} {n} h r = go v n (h .low) (h .high) (r .low) (r .high)
+pub outside-low : (v : ℤ) (d : ℕ) → 0 < d → (pos 2 *ℤ v) <ℤ under (negℤ (pos limit)) d → none ≡ kept (some (near v d))
+unfolding kept inRange
+outside-low v d p h = rw (lt-leb (natAbs (near v d)) limit (go v (near v d) (near-distance v d p) h))
   where
-    go : (v n : ℤ) → under n d ≤ℤ (pos 2 *ℤ v) → (pos 2 *ℤ v) <ℤ over n d → under (negℤ (pos limit)) d ≤ℤ (pos 2 *ℤ v) → (pos 2 *ℤ v) <ℤ over (pos limit) d → natAbs n ≤ limit
+    go : (v n : ℤ) → WithinHalf v d n → (pos 2 *ℤ v) <ℤ under (negℤ (pos limit)) d → limit < natAbs n
+    go v n =
+        rw (split v, split n)
+        (simp whole (λ a h. let x : posPart n + limit < negPart n = lt-of-mul-lt-mul-left d (omega arith) in omega arith))
+
+-- ---- by the tie rule: at limit + 1/2 and at -limit - 1/2, and half-way between n and n + 1
+
+pub outside-high : (v : ℤ) (d : ℕ) → 0 < d → over (pos limit) d ≤ℤ (pos 2 *ℤ v) → none ≡ kept (some (near v d))
+unfolding kept inRange
+outside-high v d p h = rw (lt-leb (natAbs (near v d)) limit (go v (near v d) (nearest-below p (near-nearest v d p)) h))
+  where
+    go : (v n : ℤ) → (pos 2 *ℤ v) <ℤ over n d → over (pos limit) d ≤ℤ (pos 2 *ℤ v) → limit < natAbs n
+    go v n =
+        rw (split v, split n)
+        (simp whole (λ a h. let x : negPart n + limit < posPart n = lt-of-mul-lt-mul-left d (omega arith) in omega arith))
+
+nearest-size : {v : ℤ} {d : ℕ} {n : ℤ} → 0 < d → Nearest v d n → Ranged v d → natAbs n ≤ limit
+nearest-size {v} {d} {n} p h r = go v n (h .distance) (nearest-below p h) (r .low) (r .high)
+  where
+    go : (v n : ℤ) → WithinHalf v d n → (pos 2 *ℤ v) <ℤ over n d → under (negℤ (pos limit)) d ≤ℤ (pos 2 *ℤ v) → (pos 2 *ℤ v) <ℤ over (pos limit) d → natAbs n ≤ limit
     go v n =
         rw (split v, split n)
         (simp whole (λ a b l h.
@@ -54,40 +69,18 @@ nearest-size {v} {d} {n} h r = go v n (h .low) (h .high) (r .low) (r .high)
         let y : negPart n < posPart n + (limit + 1) = lt-of-mul-lt-mul-left d (omega arith) in
         omega arith))
 
--- ---- what is kept, and what is refused
-
 pub inside : {v : ℤ} {d : ℕ} {n : ℤ} → 0 < d → Nearest v d n → Ranged v d → some n ≡ kept (some (near v d))
 unfolding kept inRange
-inside {v} {d} {n} p h r = rw (← nearest-unique v d n p h, le-leb (natAbs n) limit (nearest-size h r))
+inside {v} {d} {n} p h r = rw (← nearest-unique v d n p h, le-leb (natAbs n) limit (nearest-size p h r))
 
-pub outside-low : (v : ℤ) (d : ℕ) → 0 < d → (pos 2 *ℤ v) <ℤ under (negℤ (pos limit)) d → none ≡ kept (some (near v d))
-unfolding kept inRange
-outside-low v d p h = rw (lt-leb (natAbs (near v d)) limit (go v (near v d) (near-nearest v d p .low) h))
+pub nearest-over : (v : ℤ) (d : ℕ) (n : ℤ) → 0 < d → WithinHalf v d n → over n d ≤ℤ (pos 2 *ℤ v) → Nearest v d (n +ℤ pos 1)
+nearest-over v d n p h l = record { distance = distance v n h l; tie = below-tie v d (n +ℤ pos 1) p (below v n h) }
   where
-    go : (v n : ℤ) → under n d ≤ℤ (pos 2 *ℤ v) → (pos 2 *ℤ v) <ℤ under (negℤ (pos limit)) d → limit < natAbs n
-    go v n =
-        rw (split v, split n)
-        (simp whole (λ a h. let x : posPart n + limit < negPart n = lt-of-mul-lt-mul-left d (omega arith) in omega arith))
+    distance : (v n : ℤ) → WithinHalf v d n → over n d ≤ℤ (pos 2 *ℤ v) → WithinHalf v d (n +ℤ pos 1)
+    distance v n = rw (split v, split n) (simp whole (omega arith))
 
-pub outside-high : (v : ℤ) (d : ℕ) → 0 < d → over (pos limit) d ≤ℤ (pos 2 *ℤ v) → none ≡ kept (some (near v d))
-unfolding kept inRange
-outside-high v d p h = rw (lt-leb (natAbs (near v d)) limit (go v (near v d) (near-nearest v d p .high) h))
-  where
-    go : (v n : ℤ) → (pos 2 *ℤ v) <ℤ over n d → over (pos limit) d ≤ℤ (pos 2 *ℤ v) → limit < natAbs n
-    go v n =
-        rw (split v, split n)
-        (simp whole (λ a h. let x : negPart n + limit < posPart n = lt-of-mul-lt-mul-left d (omega arith) in omega arith))
+    below : (v n : ℤ) → WithinHalf v d n → (pos 2 *ℤ v) <ℤ over (n +ℤ pos 1) d
+    below v n = rw (split v, split n) (simp whole (omega arith))
 
--- ---- which of n and n + 1
-
-pub nearest-over : {v : ℤ} {d : ℕ} {n : ℤ} → 0 < d → Close v d n → over n d ≤ℤ (pos 2 *ℤ v) → Nearest v d (n +ℤ pos 1)
-nearest-over {v} {d} {n} p h l = record { low = low v n l; high = high v n (h .high) }
-  where
-    low : (v n : ℤ) → over n d ≤ℤ (pos 2 *ℤ v) → under (n +ℤ pos 1) d ≤ℤ (pos 2 *ℤ v)
-    low v n = rw (split v, split n) (simp whole (omega arith))
-
-    high : (v n : ℤ) → (pos 2 *ℤ v) ≤ℤ over n d → (pos 2 *ℤ v) <ℤ over (n +ℤ pos 1) d
-    high v n = rw (split v, split n) (simp whole (omega arith))
-
-pub nearest-under : {v : ℤ} {d : ℕ} {n : ℤ} → Close v d n → (pos 2 *ℤ v) <ℤ over n d → Nearest v d n
-nearest-under h l = record { low = h .low; high = l }
+pub nearest-under : (v : ℤ) (d : ℕ) (n : ℤ) → 0 < d → WithinHalf v d n → (pos 2 *ℤ v) <ℤ over n d → Nearest v d n
+nearest-under v d n p h l = record { distance = h; tie = below-tie v d n p l }

@@ -65,17 +65,19 @@ rounded nan l h = absurd (false≢true h)
 rounded (inf true) l h = absurd (true≢false l)
 rounded (inf false) l h = absurd (false≢true h)
 rounded (fin s m e) l h =
+    let v = signed s (m * up e) in
+    let d = down e in
     let r = ranged s m e l h in
     let w = whole-of s m e r in
     let n = w .number in
     let k = pos 2 *ℤ n +ℤ pos 1 in
     let x = add binary64 (ofInt binary64 n) half in
-    let z = close-size (down-pos e) (w .close) r in
+    let z = close-size v d n (down-pos e) (w .close) r in
     rw (w .is)
     (record {
       number = n;
       exact = cast-back n z .0;
       held = record { is = cast-back n z .1; size = z };
-      above = λ t. inside (down-pos e) (nearest-over (down-pos e) (w .close) (le-true x k s m e (middle-is n z) t)) r;
-      below = λ t. inside (down-pos e) (nearest-under (w .close) (le-false x k s m e (middle-is n z) t)) r;
+      above = λ t. inside (down-pos e) (nearest-over v d n (down-pos e) (w .close) (le-true x k s m e (middle-is n z) t)) r;
+      below = λ t. inside (down-pos e) (nearest-under v d n (down-pos e) (w .close) (le-false x k s m e (middle-is n z) t)) r;
     })

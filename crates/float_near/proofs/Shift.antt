@@ -15,7 +15,8 @@ use lib.Ieee.Scale.{round-same}
 use Rattle.algebra.specs.Difference.{split, whole}
 use Rattle.rules.specs.Grid.{limit}
 use Rattle.rules.specs.Level.{signed}
-use Rattle.float_near.proofs.Fraction.{over, under, Close, Ranged}
+use Rattle.rules.specs.Laws.Rounding.{WithinHalf}
+use Rattle.float_near.proofs.Fraction.{over, under, Ranged}
 use Rattle.float_near.proofs.WholeRange.{closest-is-close, round-to-whole}
 
 -- the code's constant SHIFT, 1.5 × 2^52: as a number, and as an f64
@@ -61,7 +62,7 @@ difference-is (fin false m e) R (negsuc n) v h =
 pub record Whole (v : ℤ) (d : ℕ) (x : Float) : Type 0 where
   pub number : ℤ
   pub is : x ≡ ofInt binary64 number
-  pub close : Close v d number
+  pub close : WithinHalf v d number
 
 -- N / d is v / d + base, and lies from 2^52 to 2^53
 record Lifted (v : ℤ) (d N : ℕ) : Type 0 where
@@ -84,14 +85,8 @@ lifted v d p r = record { is = is v (r .low); least = least v (r .low); most = m
 back : (R b : ℕ) → pos R ≡ (pos R -ℤ pos b) +ℤ pos b
 back R b = simp whole (omega arith)
 
-close-of : (v : ℤ) (d N R b : ℕ) → pos N ≡ v +ℤ pos (b * d) → 2 * N ≤ (2 * R + 1) * d → 2 * R * d ≤ 2 * N + d → Close v d (pos R -ℤ pos b)
-close-of v d N R b h l u = record { low = low v h; high = high v h }
-  where
-    low : (v : ℤ) → pos N ≡ v +ℤ pos (b * d) → under (pos R -ℤ pos b) d ≤ℤ (pos 2 *ℤ v)
-    low v = rw (split v) (simp whole (omega arith))
-
-    high : (v : ℤ) → pos N ≡ v +ℤ pos (b * d) → (pos 2 *ℤ v) ≤ℤ over (pos R -ℤ pos b) d
-    high v = rw (split v) (simp whole (omega arith))
+close-of : (v : ℤ) (d N R b : ℕ) → pos N ≡ v +ℤ pos (b * d) → 2 * N ≤ (2 * R + 1) * d → 2 * R * d ≤ 2 * N + d → WithinHalf v d (pos R -ℤ pos b)
+close-of v d N R b = rw (split v) (simp whole (omega arith))
 
 pub whole-of : (s : Bool) (m : ℕ) (e : ℤ) → Ranged (signed s (m * up e)) (down e) → Whole (signed s (m * up e)) (down e) (sub binary64 (add binary64 (fin s m e) shift) shift)
 whole-of s m e r =

@@ -4,6 +4,6 @@ use lib.IntN.{ℤ}
 use Rattle.float_near.specs.declared.Settled.{Settled}
 use Rattle.float_near.specs.declared.Settled.the-variants.{Value, Outside}
 
-abbrev pub settled : Settled → Option ℤ
-settled (Value z) = some z
-settled Outside = none
+abbrev pub settledValue : Settled → Option ℤ
+settledValue (Value z) = some z
+settledValue Outside = none

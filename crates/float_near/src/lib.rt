@@ -3,7 +3,7 @@
 // So the quotient is rounded to a whole number first, and compared with the middle between that and the next one, which is exact.
 ghost use mathlib.Core.Path.{_≡_};
 ghost use Rattle.rules.specs.Level.{nearFloat, kept};
-ghost use Rattle.float_near.specs.Settled.{settled};
+ghost use Rattle.float_near.specs.Settled.{settledValue};
 
 // A control value in whole micrometres, or that its quotient is refused.
 pub enum Settled {
@@ -18,7 +18,7 @@ const SHIFT: f64 = 6755399441055744.0;
 // r is q rounded to a whole number, an exact half to the even one. near takes it to the larger, so what went down goes up again.
 // No step depends on q's sign: a branch on it would be mispredicted half the time.
 pub fn near_float(q: f64) -> Settled
-    ensures { λ r. ⌜ settled r ≡ kept (nearFloat q) ⌝ }
+    ensures { λ r. ⌜ settledValue r ≡ kept (nearFloat q) ⌝ }
 {
     if q < -4000000000.5 {
         return Settled::Outside;

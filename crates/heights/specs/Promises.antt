@@ -11,11 +11,11 @@ use lib.ListN.{length}
 use mir.Facts.{and-yes}
 use Rattle.rules.specs.Grid.{limit, inside, controls, control}
 use Rattle.rules.specs.Surface.{surface, height}
-use Rattle.rules.specs.Answers.{Check, require, short, position, unit, _then_, accepted}
+use Rattle.rules.specs.Answers.{require, short, position, unit, accepted}
 use Rattle.rules.specs.Calls.{cellsCheck, unitCheck, latticeCheck, heightCheck, heightAnswer}
-use Rattle.rules.specs.Laws.Checks.{required, then-first, then-rest, answer-none, answer-value}
+use Rattle.rules.specs.Laws.Checks.{required, then-both, then-rest, answer-none, answer-value}
 use Rattle.rules.specs.Laws.Surface.{Inside, Bounded, full, control-within, height-within, height-distance}
-use Rattle.checks.specs.Passed.{cells-passed, lattice-passed}
+use Rattle.rules.specs.Laws.Passed.{cells-passed, lattice-passed}
 use Rattle.heights.specs.Reading.{told}
 use Rattle.heights.specs.declared.Reading.{Reading}
 
@@ -27,23 +27,17 @@ unit-positive U e = listed U (required (eqb U 16 || eqb U 32 || eqb U 64 || eqb 
     listed zero t = absurd t
     listed (suc n) t = omega arith
 
--- five checks that refuse nothing
-each : (a b c d e : Check) → (a then b then c then d then e) ≡ none → (a ≡ none) × (b ≡ none) × (c ≡ none) × (d ≡ none) × (e ≡ none)
-each a b c d e h =
-    let k = then-rest a (b then c then d then e) h in
-    let i = then-rest b (c then d then e) k in
-    let j = then-rest c (d then e) i in
-    (then-first a (b then c then d then e) h, then-first b (c then d then e) k, then-first c (d then e) i, then-first d e j, then-rest d e j)
-
 -- what the checks of a height leave: a position on the lattice, whose control values are in range
 pub height-passed : (m n U : ℕ) (l : List ℤ) (x y : ℕ) → heightCheck m n U l x y ≡ none → Inside U m n x y × Bounded m n (control m l) limit
 unfolding heightCheck inside
 height-passed m n U l x y h =
-    let p = each (cellsCheck 512 m n) (unitCheck U) (require (leb (controls m n) (length l)) short) (latticeCheck m n l) (require (inside U m x && inside U n y) (position 0)) h in
-    let sides = cells-passed 512 m n (p .0) in
-    let at = and-yes (inside U m x) (inside U n y) (required (inside U m x && inside U n y) (position 0) (p .4)) in
-    let on : Inside U m n x y = record { unit = unit-positive U (p .1); across = sides .0; up = sides .2; x-inside = leb→le x (U * m) (at .0); y-inside = leb→le y (U * n) (at .1) } in
-    (on, control-within m n l (lattice-passed m n l (p .3)))
+    let a = then-both (cellsCheck 512 m n) _ h in
+    let b = then-both (unitCheck U) _ (a .1) in
+    let c = then-both (latticeCheck m n l) _ (then-rest (require (leb (controls m n) (length l)) short) _ (b .1)) in
+    let sides = cells-passed 512 m n (a .0) in
+    let at = and-yes (inside U m x) (inside U n y) (required (inside U m x && inside U n y) (position 0) (c .1)) in
+    let on : Inside U m n x y = record { unit = unit-positive U (b .0); across = sides .0; up = sides .2; x-inside = leb→le x (U * m) (at .0); y-inside = leb→le y (U * n) (at .1) } in
+    (on, control-within m n l (lattice-passed m n l (c .0)))
 
 -- ---- the promises
 

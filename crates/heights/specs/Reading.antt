@@ -1,14 +1,16 @@
 -- What the heights' contracts cite beside the rules.
-use Prim.Native.Nat.{ℕ, _+_, _*_, _^_, _≤_, _<_}
+use Prim.Native.Nat.{ℕ, zero, suc, _+_, _*_, _^_, _≤_, _<_}
 use mathlib.Core.Path.{_≡_}
 use mathlib.Core.List.{List}
-use lib.IntN.{ℤ, pos, natAbs, _+ℤ_, _*ℤ_}
+use lib.IntN.{ℤ, pos}
 use lib.ListN.{length}
 use Rattle.rules.specs.Answers as rule
 use Rattle.rules.specs.Grid.{controls}
 use Rattle.rules.specs.Surface.{numerator, cell, offset}
+use Rattle.rules.specs.Laws.Basis.{totalSize}
 use Rattle.rules.specs.Laws.Checks.{AllInRange}
 use Rattle.answers.specs.Cause.{cause}
+use Rattle.checks.specs.Passed.{Gridded}
 use Rattle.heights.specs.declared.Basis.{Basis}
 use Rattle.heights.specs.declared.Spot.{Spot}
 use Rattle.heights.specs.declared.Reading.{Reading}
@@ -26,21 +28,30 @@ pub record Located (p : Spot) (U m x : ℕ) : Type 0 where
   pub cell-is : p .cell ≡ cell U m x
   pub offset-is : p .offset ≡ offset U m x
 
--- the sum of the numerators' sizes
-abbrev pub weight : Basis → ℕ
-weight b = natAbs (b .b0) + natAbs (b .b1) + natAbs (b .b2) + natAbs (b .b3)
+-- four values as weights or as what is weighed
+abbrev pub four : ℤ → ℤ → ℤ → ℤ → ℕ → ℤ
+four p q r s zero = p
+four p q r s (suc zero) = q
+four p q r s (suc (suc zero)) = r
+four p q r s (suc (suc (suc k))) = s
 
--- the sum of the products of the four numerators and the values that f has from q on
-abbrev pub products : Basis → (ℕ → ℤ) → ℕ → ℤ
-products b f q = b .b0 *ℤ f q +ℤ b .b1 *ℤ f (q + 1) +ℤ b .b2 *ℤ f (q + 2) +ℤ b .b3 *ℤ f (q + 3)
+abbrev pub numerators : Basis → ℕ → ℤ
+numerators b = four (b .b0) (b .b1) (b .b2) (b .b3)
+
+-- the sum of the numerators' sizes
+abbrev pub weightSize : Basis → ℕ
+weightSize b = totalSize (numerators b)
+
+-- the four values from place q on are stored and in range, and b can weigh them
+pub record Weighable (lattice : List ℤ) (q : ℕ) (b : Basis) (e : ℕ) : Type 0 where
+  pub e-most : e ≤ 9
+  pub stored : q + 3 < length lattice
+  pub weight-most : weightSize b ≤ 805_306_368
+  pub ranged : AllInRange (q + 4) lattice
 
 -- a lattice that heights can be read from without a check
 pub record Grounded (m n e : ℕ) (lattice : List ℤ) : Type 0 where
-  pub columns : 0 < m
-  pub columns-most : m ≤ 512
-  pub rows : 0 < n
-  pub rows-most : n ≤ 512
-  pub exponent : e ≤ 9
+  pub grid : Gridded m n e
   pub long : controls m n ≤ length lattice
   pub ranged : AllInRange (controls m n) lattice
 

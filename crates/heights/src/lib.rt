@@ -1,18 +1,18 @@
 // Heights of a control lattice, read in two steps as document 01 has them.
-// U is a power of two, 2^e: cells by a shift, and near over 6U³ = 3·2^(3e+1) by an add, a shift and a division by 3.
+// U is a power of two, 2^e, so that cells are found by a shift.
 ghost use mathlib.Core.Path.{_≡_};
 ghost use Prim.Native.Nat.{_+_, _*_, _^_, _≤_, _<_};
-ghost use lib.IntN.{pos, natAbs, _+ℤ_, _*ℤ_};
-ghost use lib.ListN.{length, getD};
+ghost use lib.IntN.{pos, natAbs};
+ghost use lib.ListN.{getD};
 ghost use Rattle.rules.specs.Rounding as rounding;
 ghost use Rattle.rules.specs.Grid.{control};
 ghost use Rattle.rules.specs.Surface as rule;
-ghost use Rattle.rules.specs.Calls.{heightAnswer};
-ghost use Rattle.rules.specs.Laws.Checks.{AllInRange};
-ghost use Rattle.heights.specs.Reading.{Weighs, Located, weight, products, Readable, told};
+ghost use Rattle.rules.specs.Calls.{heightCheck, heightAnswer};
+ghost use Rattle.checks.specs.Found.{Tells};
+ghost use Rattle.heights.specs.Reading.{Weighs, Located, numerators, four, weightSize, Weighable, Readable, told};
 use answers::Refusal;
 use answers::Verdict;
-use checks::Exponent;
+use checks::Readiness;
 
 // The four numerators of a position in its cell.
 pub struct Basis {
@@ -57,28 +57,11 @@ pub fn basis_of(unit: usize, a: usize) -> Basis
 
 // The sum of four numerators times four values in range.
 pub fn weighed(b: Basis, p0: i64, p1: i64, p2: i64, p3: i64) -> i64
-    requires { ⌜ weight b ≤ 805_306_368 ⌝ }
+    requires { ⌜ weightSize b ≤ 805_306_368 ⌝ }
     requires { ⌜ (natAbs p0 ≤ 4_000_000_000) × (natAbs p1 ≤ 4_000_000_000) × (natAbs p2 ≤ 4_000_000_000) × (natAbs p3 ≤ 4_000_000_000) ⌝ }
-    ensures { λ r. ⌜ (r ≡ b .b0 *ℤ p0 +ℤ b .b1 *ℤ p1 +ℤ b .b2 *ℤ p2 +ℤ b .b3 *ℤ p3) × (natAbs r ≤ 3_221_225_472_000_000_000) ⌝ }
+    ensures { λ r. ⌜ (r ≡ rule.weighted (numerators b) (four p0 p1 p2 p3) 0) × (natAbs r ≤ 3_221_225_472_000_000_000) ⌝ }
 {
     b.b0 * p0 + b.b1 * p1 + b.b2 * p2 + b.b3 * p3
-}
-
-// floor(v / 3)
-pub fn third(v: i64) -> i64
-    requires { ⌜ natAbs v ≤ 4_611_686_018_427_387_904 ⌝ }
-    ensures { λ r. ⌜ r ≡ rounding.floor v 3 ⌝ }
-{
-    if v < 0 { (v - 2) / 3 } else { v / 3 }
-}
-
-// near(v / 6U³)
-pub fn near_over(v: i64, e: u32) -> i64
-    requires { ⌜ (natAbs v ≤ 3_221_225_472_000_000_000) × (e ≤ 9) ⌝ }
-    ensures { λ r. ⌜ r ≡ rounding.near v (rule.denominator (2 ^ e)) ⌝ }
-{
-    let s = 3 * e;
-    third((v + (3 << s)) >> (s + 1))
 }
 
 // "A position x lies in cell floor(x/U); the far edge belongs to the last cell with a = U"
@@ -97,10 +80,10 @@ pub fn locate(x: usize, m: usize, e: u32) -> Spot
 
 // One step of a height: near of the sum of the four control values from place q on, over 6U³.
 pub fn row_height(lattice: &[i64], q: usize, b: Basis, e: u32) -> i64
-    requires { ⌜ (e ≤ 9) × (q + 3 < length (now lattice)) × (weight b ≤ 805_306_368) × AllInRange (q + 4) (now lattice) ⌝ }
-    ensures { λ r. ⌜ r ≡ rounding.near (products b (λ s. getD (now (lattice .entry)) s (pos 0)) q) (rule.denominator (2 ^ e)) ⌝ }
+    requires { ⌜ Weighable (now lattice) q b e ⌝ }
+    ensures { λ r. ⌜ r ≡ rounding.near (rule.weighted (numerators b) (λ s. getD (now (lattice .entry)) s (pos 0)) q) (rule.denominator (2 ^ e)) ⌝ }
 {
-    near_over(
+    roundings::near_over(
         weighed(
             b,
             lattice[q],
@@ -131,30 +114,35 @@ pub fn height_within(m: usize, n: usize, e: u32, lattice: &[i64], x: usize, y: u
     let r1 = row_height(lattice, q1, bx, e);
     let r2 = row_height(lattice, q2, bx, e);
     let r3 = row_height(lattice, q3, bx, e);
-    near_over(weighed(by, r0, r1, r2, r3), e)
+    roundings::near_over(weighed(by, r0, r1, r2, r3), e)
 }
 
-// A height, behind document 01's checks in their order.
+// The checks of a height in document 01's order: 1, 2, 4, 6 and 5.
+fn readable(m: usize, n: usize, unit: usize, lattice: &[i64], x: usize, y: usize) -> Readiness
+    ensures { λ r. ⌜ Tells (heightCheck m n unit (now (lattice .entry)) x y) unit (λ e. Readable m n e (now (lattice .entry)) x y) r ⌝ }
+{
+    let grid = checks::gridded(m, n, unit);
+    let Readiness::Of(_) = grid else {
+        return grid;
+    };
+    if let Verdict::Refused(r) = checks::stored(m, n, lattice) {
+        return Readiness::Refused(r);
+    }
+    if unit * m < x {
+        return Readiness::Refused(Refusal::Position(0));
+    }
+    if unit * n < y {
+        return Readiness::Refused(Refusal::Position(0));
+    }
+    grid
+}
+
+// A height, behind its checks.
 pub fn height(m: usize, n: usize, unit: usize, lattice: &[i64], x: usize, y: usize) -> Reading
     ensures { λ r. ⌜ told r ≡ heightAnswer m n unit (now (lattice .entry)) x y ⌝ }
 {
-    if let Verdict::Refused(r) = checks::cells(512, m, n) {
-        return Reading::Refused(r);
+    match readable(m, n, unit, lattice, x, y) {
+        Readiness::Of(e) => Reading::Height(height_within(m, n, e, lattice, x, y)),
+        Readiness::Refused(r) => Reading::Refused(r),
     }
-    let Exponent::Of(e) = checks::listed_unit(unit) else {
-        return Reading::Refused(Refusal::Unit);
-    };
-    if lattice.len() < (m + 3) * (n + 3) {
-        return Reading::Refused(Refusal::Short);
-    }
-    if let Verdict::Refused(r) = checks::lattice(m, n, lattice) {
-        return Reading::Refused(r);
-    }
-    if unit * m < x {
-        return Reading::Refused(Refusal::Position(0));
-    }
-    if unit * n < y {
-        return Reading::Refused(Refusal::Position(0));
-    }
-    Reading::Height(height_within(m, n, e, lattice, x, y))
 }

@@ -6,10 +6,10 @@ use native.Mathlib.Nat.{mul-le-mul-right}
 use native.Mathlib.Omega.{arith}
 use lib.IntN.{ℤ}
 use lib.ListN.{length, take, drop, length-append}
-use Rattle.algebra.specs.Table.{joined, length-area, area-part}
+use Rattle.algebra.specs.Table.{joined, length-area, area-part, length-joined}
 use Rattle.rules.specs.Grid.{controls, control}
 use Rattle.rules.specs.Bytes.{bytesOf, valueBytes}
-use Rattle.rules.specs.Laws.Bytes.{length-bytesOf, length-valueBytes, length-joined}
+use Rattle.rules.specs.Laws.Bytes.{length-bytesOf, length-valueBytes}
 use Rattle.rules.specs.LatticeFile.{LR, rowRecord, rowLength, rowStart}
 
 -- row r of n rows of length k

@@ -8,7 +8,7 @@ use Rattle.lattice_file.specs.declared.LatticeRead.the-variants.{Cells, 
 use Rattle.lattice_file.specs.declared.LatticeWritten.{LatticeWritten}
 use Rattle.lattice_file.specs.declared.LatticeWritten.the-variants.{Bytes, Refused as NotWritten}
 
-abbrev pub readTold : LatticeRead → rule.Answer calls.Cells
+abbrev pub readTold : LatticeRead → rule.Answer calls.CellCounts
 readTold (Cells m n) = rule.accepted (record { m = m; n = n })
 readTold (Refused r) = rule.refused (cause r)
 

@@ -4,13 +4,22 @@ ghost use Prim.Native.Nat.{_+_, _*_, _^_, _≤_, _<_};
 ghost use lib.ListN.{length};
 ghost use Rattle.algebra.specs.Table.{over, joined, laid};
 ghost use Rattle.rules.specs.Grid.{controls};
-ghost use Rattle.rules.specs.Answers.{firstOf};
+ghost use Rattle.rules.specs.Answers.{firstOf, outcome};
 ghost use Rattle.rules.specs.LatticeFile as rule;
 ghost use Rattle.answers.specs.Cause.{check};
 ghost use Rattle.lattice_file.specs.Told.{readTold, writtenTold};
 ghost use Rattle.lattice_file.specs.Parts.{valueCheck, valuesFrom, latticeFrom, bytesOfValues};
 use answers::Refusal;
 use answers::Verdict;
+
+// The letters of the marks "LH" (0x4C 0x48), "LR" (0x4C 0x52) and "LE" (0x4C 0x45).
+const L: u8 = 0x4C;
+
+const H: u8 = 0x48;
+
+const R: u8 = 0x52;
+
+const E: u8 = 0x45;
 
 pub enum LatticeRead {
     Cells(usize, usize),
@@ -40,23 +49,15 @@ fn count(m: usize, n: usize) -> usize
 
 // "LH" with m and n
 fn head(file: &[u8]) -> Verdict
-    ensures { λ r. ⌜ check r ≡ rule.headCheck (now (file .entry)) ⌝ }
+    ensures { λ r. ⌜ check r ≡ rule.latticeHeadCheck (now (file .entry)) ⌝ }
 {
-    if let Verdict::Refused(r) = codec::record(file, 0, 6, 0x4C, 0x48) {
+    if let Verdict::Refused(r) = codec::record(file, 0, 6, L, H) {
         return Verdict::Refused(r);
     }
-    let m = codec::u16_at(file, 2);
-    if m < 1 {
+    if !checks::within(1, 512, codec::u16_at(file, 2) as usize) {
         return Verdict::Refused(Refusal::Field(2));
     }
-    if 512 < m {
-        return Verdict::Refused(Refusal::Field(2));
-    }
-    let n = codec::u16_at(file, 4);
-    if n < 1 {
-        return Verdict::Refused(Refusal::Field(4));
-    }
-    if 512 < n {
+    if !checks::within(1, 512, codec::u16_at(file, 4) as usize) {
         return Verdict::Refused(Refusal::Field(4));
     }
     Verdict::Fine
@@ -85,7 +86,7 @@ fn row(file: &[u8], m: usize, r: usize) -> Verdict
     ensures { λ v. ⌜ check v ≡ rule.rowCheck m (now (file .entry)) r ⌝ }
 {
     let s = row_start(m, r);
-    if let Verdict::Refused(v) = codec::record(file, s, 4 + 8 * (m + 3), 0x4C, 0x52) {
+    if let Verdict::Refused(v) = codec::record(file, s, 4 + 8 * (m + 3), L, R) {
         return Verdict::Refused(v);
     }
     if codec::u16_at(file, s + 2) as usize != r {
@@ -115,7 +116,7 @@ fn end(file: &[u8], m: usize, n: usize) -> Verdict
     ensures { λ v. ⌜ check v ≡ rule.endCheck m n (now (file .entry)) ⌝ }
 {
     let s = row_start(m, n + 3);
-    if let Verdict::Refused(v) = codec::record(file, s, 4, 0x4C, 0x45) {
+    if let Verdict::Refused(v) = codec::record(file, s, 4, L, E) {
         return Verdict::Refused(v);
     }
     if codec::u16_at(file, s + 2) as usize != n + 3 {
@@ -155,8 +156,7 @@ fn copy(file: &[u8], m: usize, n: usize, output: &mut [i64])
 
 // The whole file is judged before a value is written.
 pub fn read_lattice(file: &[u8], output: &mut [i64]) -> LatticeRead
-    ensures { λ r. ⌜ readTold r ≡ rule.readLatticeAnswer (now (file .entry)) (now (output .entry)) ⌝ }
-    ensures { λ _. ⌜ now (output .exit) ≡ rule.readLatticeLeaves (now (file .entry)) (now (output .entry)) ⌝ }
+    ensures { λ r. ⌜ outcome (readTold r) (now (output .exit)) ≡ rule.readLatticeCall (now (file .entry)) (now (output .entry)) ⌝ }
 {
     if let Verdict::Refused(v) = head(file) {
         return LatticeRead::Refused(v);
@@ -194,7 +194,7 @@ fn put_row(lattice: &[i64], m: usize, r: usize, output: &mut [u8])
     ensures { λ _. ⌜ now (output .exit) ≡ laid (rule.rowStart m r) (rule.rowRecord m (now (lattice .entry)) r) (now (output .entry)) ⌝ }
 {
     let s = row_start(m, r);
-    codec::put_mark(output, s, 0x4C, 0x52);
+    codec::put_mark(output, s, L, R);
     codec::put_u16(output, s + 2, r as u16);
     let from = r * (m + 3);
     let to = from + (m + 3);
@@ -219,20 +219,19 @@ pub fn put_lattice(m: usize, n: usize, lattice: &[i64], output: &mut [u8]) -> us
     ensures { λ r. ⌜ r ≡ rule.latticeFileLength m n ⌝ }
     ensures { λ _. ⌜ now (output .exit) ≡ over (rule.latticeFile m n (now (lattice .entry))) (now (output .entry)) ⌝ }
 {
-    codec::put_mark(output, 0, 0x4C, 0x48);
+    codec::put_mark(output, 0, L, H);
     codec::put_u16(output, 2, m as u16);
     codec::put_u16(output, 4, n as u16);
     put_rows(lattice, m, n, output);
     let s = row_start(m, n + 3);
-    codec::put_mark(output, s, 0x4C, 0x45);
+    codec::put_mark(output, s, L, E);
     codec::put_u16(output, s + 2, (n + 3) as u16);
     s + 4
 }
 
 // The lattice and the room for its file are judged before a byte is written.
 pub fn write_lattice(m: usize, n: usize, lattice: &[i64], output: &mut [u8]) -> LatticeWritten
-    ensures { λ r. ⌜ writtenTold r ≡ rule.writeLatticeAnswer m n (now (lattice .entry)) (now (output .entry)) ⌝ }
-    ensures { λ _. ⌜ now (output .exit) ≡ rule.writeLatticeLeaves m n (now (lattice .entry)) (now (output .entry)) ⌝ }
+    ensures { λ r. ⌜ outcome (writtenTold r) (now (output .exit)) ≡ rule.writeLatticeCall m n (now (lattice .entry)) (now (output .entry)) ⌝ }
 {
     if let Verdict::Refused(v) = checks::cells(512, m, n) {
         return LatticeWritten::Refused(v);

@@ -1,2 +1,1 @@
 pub mod Scatter
-pub mod Weights

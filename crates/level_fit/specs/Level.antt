@@ -53,6 +53,10 @@ firstOf-same (suc n) f g h = ap₂ answer._then_ (firstOf-same n f g (λ i l. h 
 
 -- ---- the sums after all the points
 
+pub length-sums : (U m n : ℕ) (points : List rule.Point) → length (sumTable U m n points) ≡ 2 * controls m n
+unfolding sumTable
+length-sums U m n points = length-paired (controls m n) _
+
 pub pair-table : (U m n : ℕ) (points : List rule.Point) (d : List Float) (q : ℕ) → q < controls m n
     → pairAt (controls m n) (over (sumTable U m n points) d) q ≡ rule.gathered U m n (q % (m + 3)) (q / (m + 3)) points rule.noSums
 unfolding sumTable

@@ -1,16 +1,22 @@
 -- What the level fit's contracts cite beside the rules: the code's sums and coefficients as those of the rules, and how sums stand in f64 scratch.
 use Prim.Native.Nat.{ℕ, zero, suc, _+_, _*_, _/_, _%_, _^_, _≤_, _<_}
 use mathlib.Core.Path.{_≡_}
+use mathlib.Core.Bool.{Bool}
 use mathlib.Core.Option.{Option}
-use mathlib.Core.List.{List, [], _∷_, _++_}
+use mathlib.Core.List.{List, _++_}
+use lib.Dec.{T}
 use lib.IntN.{ℤ}
 use lib.Ieee.{Float, nan}
 use lib.ListN.{length, getD}
-use Rattle.algebra.specs.Table.{tabulate, laid}
+use Rattle.algebra.specs.Table.{tabulate, over, laid, Free}
+use Rattle.rules.specs.Answers as answer
 use Rattle.rules.specs.Grid.{controls}
 use Rattle.rules.specs.Surface.{cell}
 use Rattle.rules.specs.Level as rule
-use Rattle.rules.specs.Level.{_⊗_}
+use Rattle.rules.specs.Fit.{Survey, pointCount, pointAt, present, orZero}
+use Rattle.answers.specs.Cause.{okCheck}
+use Rattle.checks.specs.Passed.{Gridded}
+use Rattle.weights.specs.Block.{weightAt, pointBlock}
 use Rattle.level_fit.specs.declared.Sums.{Sums}
 use Rattle.level_fit.specs.declared.Coefficient.{Coefficient}
 use Rattle.level_fit.specs.declared.Coefficient.the-variants.{Fitted, Untouched}
@@ -22,16 +28,8 @@ abbrev pub coefficientOf : Coefficient → rule.Coefficient
 coefficientOf (Fitted q) = rule.fitted q
 coefficientOf Untouched = rule.untouched
 
--- ---- a point's weights. Where a list has no entry, nan stands for one, as in the machine's reading.
-
--- the products of b, the first index, and c
-unfoldable pub blockOf : List Float → List Float → List (List Float)
-blockOf b c = tabulate 4 (λ k. tabulate 4 (λ l. getD b k nan ⊗ getD c l nan))
-
-abbrev pub weightAt : List (List Float) → ℕ → ℕ → Float
-weightAt w k l = getD (getD w k []) l nan
-
--- ---- sums in f64 scratch, for count control values: the first sum of the one at place q stands at q, the second at count + q
+-- ---- sums in f64 scratch, for count control values: the first sum of the one at place q stands at q, the second at count + q. Where a list has no
+-- entry, nan stands for one, as in the machine's reading.
 
 unfoldable pub pairAt : ℕ → List Float → ℕ → rule.Sums
 pairAt count sums q = record { first = getD sums q nan; second = getD sums (count + q) nan }
@@ -54,12 +52,7 @@ blockAdded w z width count = rows (λ k l. rule.grown (w k l) z (rule.squares w)
 -- a point's part in its sixteen control values
 unfoldable pub pointAdded : ℕ → ℕ → ℕ → rule.Point → List Float → List Float
 pointAdded U m n p sums =
-    blockAdded (rule.weight U m n p) (rule.float (p .z)) (m + 3) (controls m n) sums (cell U n (p .y) * (m + 3) + cell U m (p .x))
-
--- every point's part, in list order
-unfoldable pub pointsAdded : ℕ → ℕ → ℕ → List rule.Point → List Float → List Float
-pointsAdded U m n [] sums = sums
-pointsAdded U m n (p ∷ ps) sums = pointsAdded U m n ps (pointAdded U m n p sums)
+    blockAdded (weightAt (pointBlock U m n p)) (rule.float (p .z)) (m + 3) (controls m n) sums (cell U n (p .y) * (m + 3) + cell U m (p .x))
 
 -- count pairs as they stand in scratch, f q the one at place q
 unfoldable pub paired : ℕ → (ℕ → rule.Sums) → List Float
@@ -73,25 +66,23 @@ sumTable U m n points = paired (controls m n) (λ q. rule.gathered U m n (q % (m
 unfoldable pub settledAt : ℕ → List Float → ℕ → Option ℤ
 settledAt count sums q = rule.settled (rule.coefficient (pairAt count sums q))
 
+-- count pairs of sums, settled into a level: whether one is refused, the values where none is, and a level that is free in their places where one is
+pub record SettledAll (count : ℕ) (sums : List Float) (ok : Bool) (before after : List ℤ) : Type 0 where
+  pub found : (r : answer.Refusal) → answer.firstOf count (λ q. answer.require (present (settledAt count sums q)) r) ≡ okCheck ok r
+  pub is : T ok → after ≡ over (tabulate count (λ q. orZero (settledAt count sums q))) before
+  pub free : Free 0 count before after
+
 -- a position in m by n cells of 2^e positions, whose sums stand in scratch of that length
 pub record Fitting (m n e x y long : ℕ) : Type 0 where
-  pub columns : 0 < m
-  pub columns-most : m ≤ 512
-  pub rows : 0 < n
-  pub rows-most : n ≤ 512
-  pub exponent : e ≤ 9
+  pub grid : Gridded m n e
   pub x-inside : x ≤ 2 ^ e * m
   pub y-inside : y ≤ 2 ^ e * n
   pub room : 2 * controls m n ≤ long
 
--- points that a level of m by n cells of 2^e positions can be fitted to
-pub record Fittable (m n e : ℕ) (xs ys : List ℕ) (zs : List ℤ) : Type 0 where
-  pub columns : 0 < m
-  pub columns-most : m ≤ 512
-  pub rows : 0 < n
-  pub rows-most : n ≤ 512
-  pub exponent : e ≤ 9
-  pub as-many-y : length ys ≡ length xs
-  pub as-many-z : length zs ≡ length xs
-  pub x-inside : (i : ℕ) → i < length xs → getD xs i 0 ≤ 2 ^ e * m
-  pub y-inside : (i : ℕ) → i < length xs → getD ys i 0 ≤ 2 ^ e * n
+-- a survey that a level of m by n cells of 2^e positions can be fitted to
+pub record Fittable (m n e : ℕ) (s : Survey) : Type 0 where
+  pub grid : Gridded m n e
+  pub as-many-y : length (s .ys) ≡ pointCount s
+  pub as-many-z : length (s .zs) ≡ pointCount s
+  pub x-inside : (i : ℕ) → i < pointCount s → pointAt s i .x ≤ 2 ^ e * m
+  pub y-inside : (i : ℕ) → i < pointCount s → pointAt s i .y ≤ 2 ^ e * n

@@ -1,91 +1,31 @@
 // One level of the fit, in f64 to the bit: the points' weights are scattered into two sums a control value, and each pair of sums becomes a control value.
 ghost use mathlib.Core.Path.{_≡_};
 ghost use mathlib.Core.List.{[], _∷_};
-ghost use Prim.Native.Nat.{ℕ, _+_, _*_, _^_, _≤_, _<_};
-ghost use lib.Dec.{T};
-ghost use lib.IntN.{natAbs};
-ghost use lib.ListN.{length};
+ghost use Prim.Native.Nat.{_+_, _*_, _^_, _≤_, _<_};
+ghost use lib.ListN.{length, replicate};
 ghost use Rattle.algebra.specs.Table.{tabulate, over, laid};
-ghost use Rattle.rules.specs.Answers as answer;
 ghost use Rattle.rules.specs.Grid.{controls};
 ghost use Rattle.rules.specs.Level as rule;
-ghost use Rattle.rules.specs.Fit.{pointsOf, present, orZero};
-ghost use Rattle.float_near.specs.Settled.{settled};
-ghost use Rattle.answers.specs.Cause.{okCheck};
-ghost use Rattle.level_fit.specs.Sums.{blockOf, weightAt, sumsOf, coefficientOf, pairAt, row, blockAdded, pointAdded, sumTable, settledAt, Fitting, Fittable};
+ghost use Rattle.rules.specs.Fit.{survey, pointsOf};
+ghost use Rattle.weights.specs.Block.{weightAt};
+ghost use Rattle.float_near.specs.Settled.{settledValue};
+ghost use Rattle.level_fit.specs.Sums.{sumsOf, coefficientOf, pairAt, row, blockAdded, pointAdded, sumTable, SettledAll, Fitting, Fittable};
 use float_near::Settled;
 
 // The two running sums of a control value. In scratch the first sums of all control values stand before the second sums.
-pub struct Sums {
-    pub first: f64,
-    pub second: f64,
+struct Sums {
+    first: f64,
+    second: f64,
 }
 
 // A control value's quotient, or that no point has reached it.
-pub enum Coefficient {
+enum Coefficient {
     Fitted(f64),
     Untouched,
 }
 
-// A whole number that f64 holds.
-fn exact(v: i64) -> f64
-    requires { ⌜ natAbs v ≤ 2 ^ 53 ⌝ }
-    ensures { λ r. ⌜ r ≡ rule.float v ⌝ }
-{
-    v as f64
-}
-
-// "Bk and Cl are numerator divided by 6U³"
-pub fn axis(e: u32, a: usize) -> [f64; 4]
-    requires { ⌜ (e ≤ 9) × (a ≤ 2 ^ e) ⌝ }
-    ensures { λ r. ⌜ r ≡ tabulate 4 (rule.basis (2 ^ e) a) ⌝ }
-{
-    let b = heights::basis_of(1 << e, a);
-    let d = exact(6 << (3 * e));
-    [
-        exact(b.b0) / d,
-        exact(b.b1) / d,
-        exact(b.b2) / d,
-        exact(b.b3) / d,
-    ]
-}
-
-// "The sixteen weights form a four by four block, w = Bk × Cl"
-pub fn block(b: [f64; 4], c: [f64; 4]) -> [[f64; 4]; 4]
-    ensures { λ r. ⌜ r ≡ blockOf b c ⌝ }
-{
-    let b0 = b[0];
-    let b1 = b[1];
-    let b2 = b[2];
-    let b3 = b[3];
-    let c0 = c[0];
-    let c1 = c[1];
-    let c2 = c[2];
-    let c3 = c[3];
-    [
-        [b0 * c0, b0 * c1, b0 * c2, b0 * c3],
-        [b1 * c0, b1 * c1, b1 * c2, b1 * c3],
-        [b2 * c0, b2 * c1, b2 * c2, b2 * c3],
-        [b3 * c0, b3 * c1, b3 * c2, b3 * c3],
-    ]
-}
-
-// "S adds w × w from 0, k outer, l inner"
-pub fn squares(w: [[f64; 4]; 4]) -> f64
-    ensures { λ r. ⌜ r ≡ rule.squares (weightAt w) ⌝ }
-{
-    let mut s = 0.0;
-    let mut i = 0;
-    while i < 16 {
-        let v = w[i / 4][i % 4];
-        s = s + v * v;
-        i += 1;
-    }
-    s
-}
-
 // "the first grows by (w × w) × ((w × z) / S), the second by w × w"
-pub fn grown(sums: Sums, w: f64, z: f64, s: f64) -> Sums
+fn grown(sums: Sums, w: f64, z: f64, s: f64) -> Sums
     ensures { λ r. ⌜ sumsOf r ≡ rule.grown w z s (sumsOf sums) ⌝ }
 {
     Sums {
@@ -140,7 +80,7 @@ fn add_block(sums: &mut [f64], q: usize, count: usize, width: usize, w: [[f64; 4
     requires { ⌜ (q + width + width + width + 4 ≤ count) × (2 * count ≤ length (now sums)) ⌝ }
     ensures { λ _. ⌜ now (sums .exit) ≡ blockAdded (weightAt w) z width count (now (sums .entry)) q ⌝ }
 {
-    let s = squares(w);
+    let s = weights::squares(w);
     let q1 = q + width;
     let q2 = q1 + width;
     let q3 = q2 + width;
@@ -157,7 +97,7 @@ fn add_point(sums: &mut [f64], m: usize, n: usize, e: u32, x: usize, y: usize, z
 {
     let across = heights::locate(x, m, e);
     let up = heights::locate(y, n, e);
-    let w = block(axis(e, across.offset), axis(e, up.offset));
+    let w = weights::block(weights::axis(e, across.offset), weights::axis(e, up.offset));
     let width = m + 3;
     let count = width * (n + 3);
     add_block(
@@ -170,26 +110,26 @@ fn add_point(sums: &mut [f64], m: usize, n: usize, e: u32, x: usize, y: usize, z
     );
 }
 
-// The first count entries from 0, whatever stood there.
-pub fn clear(sums: &mut [f64], count: usize)
+// The first count entries set to +0, whatever stood there.
+pub fn clear(count: usize, sums: &mut [f64])
     requires { ⌜ count ≤ length (now sums) ⌝ }
-    ensures { λ _. ⌜ now (sums .exit) ≡ over (tabulate count (λ _. rule.zero64)) (now (sums .entry)) ⌝ }
+    ensures { λ _. ⌜ now (sums .exit) ≡ over (replicate count rule.zero64) (now (sums .entry)) ⌝ }
 {
-    let mut i = 0;
-    while i < count {
-        sums[i] = 0.0;
-        i += 1;
+    let mut q = 0;
+    while q < count {
+        sums[q] = 0.0;
+        q += 1;
     }
 }
 
 // Both sums of every control value from 0, points in list order.
 pub fn gather(m: usize, n: usize, e: u32, xs: &[u16], ys: &[u16], zs: &[i64], sums: &mut [f64])
-    requires { ⌜ Fittable m n e (now xs) (now ys) (now zs) ⌝ }
+    requires { ⌜ Fittable m n e (survey (now xs) (now ys) (now zs)) ⌝ }
     requires { ⌜ 2 * controls m n ≤ length (now sums) ⌝ }
-    ensures { λ _. ⌜ now (sums .exit) ≡ over (sumTable (2 ^ e) m n (pointsOf (now (xs .entry)) (now (ys .entry)) (now (zs .entry)))) (now (sums .entry)) ⌝ }
+    ensures { λ _. ⌜ now (sums .exit) ≡ over (sumTable (2 ^ e) m n (pointsOf (survey (now (xs .entry)) (now (ys .entry)) (now (zs .entry))))) (now (sums .entry)) ⌝ }
 {
     let count = (m + 3) * (n + 3);
-    clear(sums, 2 * count);
+    clear(2 * count, sums);
     let mut i = 0;
     while i < xs.len() {
         add_point(sums, m, n, e, xs[i] as usize, ys[i] as usize, zs[i]);
@@ -198,7 +138,7 @@ pub fn gather(m: usize, n: usize, e: u32, xs: &[u16], ys: &[u16], zs: &[i64], su
 }
 
 // "a control value is either fitted, with its quotient first over second, where the second sum is above 0, or untouched"
-pub fn quotient_of(sums: Sums) -> Coefficient
+fn quotient_of(sums: Sums) -> Coefficient
     ensures { λ r. ⌜ coefficientOf r ≡ rule.coefficient (sumsOf sums) ⌝ }
 {
     if 0.0 < sums.second {
@@ -209,8 +149,8 @@ pub fn quotient_of(sums: Sums) -> Coefficient
 }
 
 // "untouched, which counts as 0. The quotient becomes near of its exact value"
-pub fn settle(c: Coefficient) -> Settled
-    ensures { λ r. ⌜ settled r ≡ rule.settled (coefficientOf c) ⌝ }
+fn settle(c: Coefficient) -> Settled
+    ensures { λ r. ⌜ settledValue r ≡ rule.settled (coefficientOf c) ⌝ }
 {
     match c {
         Coefficient::Fitted(q) => float_near::near_float(q),
@@ -218,11 +158,10 @@ pub fn settle(c: Coefficient) -> Settled
     }
 }
 
-// The control values of count pairs of sums, or false where one is refused.
+// The control values of count pairs of sums, or false where one is refused: then their places are free.
 pub fn settle_all(count: usize, sums: &[f64], level: &mut [i64]) -> bool
     requires { ⌜ (2 * count ≤ length (now sums)) × (count ≤ length (now level)) × (count ≤ 265_225) ⌝ }
-    ensures { λ ok. ⌜ ((r : answer.Refusal) → answer.firstOf count (λ q. answer.require (present (settledAt count (now (sums .entry)) q)) r) ≡ okCheck ok r) ⌝ }
-    ensures { λ ok. ⌜ (T ok → now (level .exit) ≡ over (tabulate count (λ q. orZero (settledAt count (now (sums .entry)) q))) (now (level .entry))) ⌝ }
+    ensures { λ ok. ⌜ SettledAll count (now (sums .entry)) ok (now (level .entry)) (now (level .exit)) ⌝ }
 {
     let mut q = 0;
     while q < count {

@@ -1,7 +1,7 @@
 -- What an i64 expression holds. The machine computes on bits, and reads them back as `toZ w64 (ofZ w64 x)` after each operation.
 -- `Held x z B` says that the machine's x is the number z, of size at most B; each operation's result is held where the bound leaves room.
 use mathlib.Core.Path.{_≡_, refl, sym, ap, ap₂, _∙_, subst}
-use Prim.Native.Nat.{ℕ, zero, suc, _+_, _*_, _/_, _%_, _^_, _≤_, _<_, suc-le-suc}
+use Prim.Native.Nat.{ℕ, suc, _+_, _*_, _/_, _%_, _^_, _≤_, _<_, suc-le-suc}
 use native.Mathlib.Nat.{le-trans, le-refl, div-le-self, mod-eq-of-lt, mul-le-mul}
 use native.Mathlib.Omega.{arith}
 use lib.Dec.{T, leb, ltb, leb→le, ltb→lt}

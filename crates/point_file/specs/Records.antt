@@ -4,12 +4,11 @@ use mathlib.Core.Path.{_≡_, refl, ap}
 use mathlib.Core.Option.{none}
 use mathlib.Core.List.{List}
 use native.Mathlib.Omega.{arith}
-use lib.Dec.{leb, leb→le}
+use lib.Dec.{leb→le}
 use lib.ListN.{length, getD}
-use Rattle.rules.specs.Grid.{within}
-use Rattle.rules.specs.Answers.{require, _then_}
+use Rattle.rules.specs.Answers.{_then_}
 use Rattle.rules.specs.Bytes.{numberAt}
-use Rattle.rules.specs.PointFile.{PH, fileShape, headCheck}
+use Rattle.rules.specs.PointFile.{PH, fileShape, pointHeadCheck}
 use Rattle.rules.specs.Laws.Bytes.{entries, numberAt-entries, record-fits}
 use Rattle.rules.specs.Laws.Checks.{required, within-bounds, then-first, then-rest}
 
@@ -23,8 +22,8 @@ pub record HeadBounds (file : List ℕ) : Type 0 where
   pub n0 : getD file 3 0 ≤ 16
   pub h : getD file 4 0 ≤ 5
 
-pub head-passed : (file : List ℕ) → headCheck file ≡ none → HeadBounds file
-unfolding headCheck fileShape PH
+pub head-passed : (file : List ℕ) → pointHeadCheck file ≡ none → HeadBounds file
+unfolding pointHeadCheck fileShape PH
 head-passed file e =
     let after-mark = then-rest _ _ e in
     let after-m0 = then-rest _ _ after-mark in

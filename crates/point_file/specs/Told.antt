@@ -1,12 +1,10 @@
 -- Document 01's answer for each case of the point file's answers, and what a file's header says.
 use Prim.Native.Nat.{ℕ, _*_}
 use mathlib.Core.List.{List, _++_}
-use lib.IntN.{ℤ, pos}
-use lib.ListN.{getD}
 use Rattle.rules.specs.Answers as rule
 use Rattle.rules.specs.Fit.{Shape, shape, columns, rows}
 use Rattle.rules.specs.PointFile as file
-use Rattle.rules.specs.PointFile.{fileShape, filePoints, PH, pointRecord}
+use Rattle.rules.specs.PointFile.{fileShape, filePoints, PH}
 use Rattle.rules.specs.Bytes.{bytesOf}
 use Rattle.answers.specs.Cause.{cause}
 use Rattle.point_file.specs.declared.PointsRead.{PointsRead}
@@ -33,9 +31,6 @@ lastX a = 16 * columns a (a .h)
 abbrev pub lastY : Shape → ℕ
 lastY a = 16 * rows a (a .h)
 
--- the two parts of a written file: its head, and the record of each point
+-- the head of a written file
 unfoldable pub headBytes : ℕ → ℕ → ℕ → ℕ → List ℕ
 headBytes m0 n0 h p = PH ++ bytesOf 1 m0 ++ bytesOf 1 n0 ++ bytesOf 1 h ++ bytesOf 1 0 ++ bytesOf 2 p
-
-unfoldable pub recordOf : List ℕ → List ℕ → List ℤ → ℕ → List ℕ
-recordOf xs ys zs i = pointRecord (getD xs i 0) (getD ys i 0) (getD zs i (pos 0))

@@ -3,14 +3,22 @@ ghost use mathlib.Core.Path.{_≡_};
 ghost use Prim.Native.Nat.{_+_, _*_, _≤_, _<_};
 ghost use lib.ListN.{length};
 ghost use Rattle.algebra.specs.Table.{over, tabulate, joined, laid};
-ghost use Rattle.rules.specs.Answers.{answer, firstOf};
+ghost use Rattle.rules.specs.Answers.{answer, firstOf, outcome};
 ghost use Rattle.rules.specs.Bytes.{numberAt};
-ghost use Rattle.rules.specs.Fit.{shape};
+ghost use Rattle.rules.specs.Fit.{shape, survey};
 ghost use Rattle.rules.specs.PointFile as rule;
+ghost use Rattle.rules.specs.Laws.PointFile.{recordOf};
 ghost use Rattle.answers.specs.Cause.{check};
-ghost use Rattle.point_file.specs.Told.{header, lastX, lastY, headBytes, recordOf, readTold, writtenTold};
+ghost use Rattle.point_file.specs.Told.{header, lastX, lastY, headBytes, readTold, writtenTold};
 use answers::Refusal;
 use answers::Verdict;
+
+// The letters of the marks "PH" (0x50 0x48) and "PT" (0x50 0x54).
+const P: u8 = 0x50;
+
+const H: u8 = 0x48;
+
+const T: u8 = 0x54;
 
 // What a point file's head says: m0, n0, h and the number of points.
 pub struct Header {
@@ -32,23 +40,15 @@ pub enum PointsWritten {
 
 // "PH" with m0, n0, h and a zero byte
 fn head(file: &[u8]) -> Verdict
-    ensures { λ r. ⌜ check r ≡ rule.headCheck (now (file .entry)) ⌝ }
+    ensures { λ r. ⌜ check r ≡ rule.pointHeadCheck (now (file .entry)) ⌝ }
 {
-    if let Verdict::Refused(r) = codec::record(file, 0, 8, 0x50, 0x48) {
+    if let Verdict::Refused(r) = codec::record(file, 0, 8, P, H) {
         return Verdict::Refused(r);
     }
-    let m0 = file[2];
-    if m0 < 1 {
+    if !checks::within(1, 16, file[2] as usize) {
         return Verdict::Refused(Refusal::Field(2));
     }
-    if 16 < m0 {
-        return Verdict::Refused(Refusal::Field(2));
-    }
-    let n0 = file[3];
-    if n0 < 1 {
-        return Verdict::Refused(Refusal::Field(3));
-    }
-    if 16 < n0 {
+    if !checks::within(1, 16, file[3] as usize) {
         return Verdict::Refused(Refusal::Field(3));
     }
     if 5 < file[4] {
@@ -63,10 +63,10 @@ fn head(file: &[u8]) -> Verdict
 // "PT" with x, y and z; right and top are the last positions of the grid
 fn point(file: &[u8], right: usize, top: usize, i: usize) -> Verdict
     requires { ⌜ (right ≡ lastX (rule.fileShape (now file))) × (top ≡ lastY (rule.fileShape (now file))) × (i < 65_536) ⌝ }
-    ensures { λ r. ⌜ check r ≡ rule.pointCheck (rule.fileShape (now (file .entry))) (now (file .entry)) i ⌝ }
+    ensures { λ r. ⌜ check r ≡ rule.pointRecordCheck (rule.fileShape (now (file .entry))) (now (file .entry)) i ⌝ }
 {
     let s = 8 + 14 * i;
-    if let Verdict::Refused(r) = codec::record(file, s, 14, 0x50, 0x54) {
+    if let Verdict::Refused(r) = codec::record(file, s, 14, P, T) {
         return Verdict::Refused(r);
     }
     if right < codec::u16_at(file, s + 2) as usize {
@@ -84,7 +84,7 @@ fn point(file: &[u8], right: usize, top: usize, i: usize) -> Verdict
 // All p point records.
 fn points(file: &[u8], right: usize, top: usize, p: usize) -> Verdict
     requires { ⌜ (right ≡ lastX (rule.fileShape (now file))) × (top ≡ lastY (rule.fileShape (now file))) × (p < 65_536) ⌝ }
-    ensures { λ r. ⌜ check r ≡ firstOf p (rule.pointCheck (rule.fileShape (now (file .entry))) (now (file .entry))) ⌝ }
+    ensures { λ r. ⌜ check r ≡ firstOf p (rule.pointRecordCheck (rule.fileShape (now (file .entry))) (now (file .entry))) ⌝ }
 {
     let mut i = 0;
     while i < p {
@@ -97,7 +97,7 @@ fn points(file: &[u8], right: usize, top: usize, p: usize) -> Verdict
 }
 
 // The whole file, and the header of one that is accepted.
-pub fn judge(file: &[u8]) -> PointsRead
+fn judge(file: &[u8]) -> PointsRead
     ensures { λ r. ⌜ readTold r ≡ answer (rule.pointFileCheck (now (file .entry))) (header (now (file .entry))) ⌝ }
 {
     if let Verdict::Refused(r) = head(file) {
@@ -146,10 +146,7 @@ fn copy_heights(file: &[u8], p: usize, out: &mut [i64])
 }
 
 pub fn read_points(file: &[u8], xs: &mut [u16], ys: &mut [u16], zs: &mut [i64]) -> PointsRead
-    ensures { λ r. ⌜ readTold r ≡ rule.readPointsAnswer (now (file .entry)) (now (xs .entry)) (now (ys .entry)) (now (zs .entry)) ⌝ }
-    ensures { λ _. ⌜ now (xs .exit) ≡ rule.readPointsLeaves (now (file .entry)) (now (xs .entry)) (now (ys .entry)) (now (zs .entry)) .xs ⌝ }
-    ensures { λ _. ⌜ now (ys .exit) ≡ rule.readPointsLeaves (now (file .entry)) (now (xs .entry)) (now (ys .entry)) (now (zs .entry)) .ys ⌝ }
-    ensures { λ _. ⌜ now (zs .exit) ≡ rule.readPointsLeaves (now (file .entry)) (now (xs .entry)) (now (ys .entry)) (now (zs .entry)) .zs ⌝ }
+    ensures { λ r. ⌜ outcome (readTold r) (survey (now (xs .exit)) (now (ys .exit)) (now (zs .exit))) ≡ rule.readPointsCall (now (file .entry)) (survey (now (xs .entry)) (now (ys .entry)) (now (zs .entry))) ⌝ }
 {
     let read = judge(file);
     let PointsRead::Header(header) = read else {
@@ -176,7 +173,7 @@ fn put_head(m0: usize, n0: usize, h: usize, p: usize, output: &mut [u8])
     requires { ⌜ (m0 < 256) × (n0 < 256) × (h < 256) × (p < 65_536) × (8 ≤ length (now output)) ⌝ }
     ensures { λ _. ⌜ now (output .exit) ≡ over (headBytes m0 n0 h p) (now (output .entry)) ⌝ }
 {
-    codec::put_mark(output, 0, 0x50, 0x48);
+    codec::put_mark(output, 0, P, H);
     output[2] = m0 as u8;
     output[3] = n0 as u8;
     output[4] = h as u8;
@@ -187,9 +184,9 @@ fn put_head(m0: usize, n0: usize, h: usize, p: usize, output: &mut [u8])
 // One point record.
 fn put_point(x: u16, y: u16, z: i64, s: usize, output: &mut [u8])
     requires { ⌜ s + 14 ≤ length (now output) ⌝ }
-    ensures { λ _. ⌜ now (output .exit) ≡ laid s (rule.pointRecord x y z) (now (output .entry)) ⌝ }
+    ensures { λ _. ⌜ now (output .exit) ≡ laid s (rule.pointRecord (record { x = x; y = y; z = z })) (now (output .entry)) ⌝ }
 {
-    codec::put_mark(output, s, 0x50, 0x54);
+    codec::put_mark(output, s, P, T);
     codec::put_u16(output, s + 2, x);
     codec::put_u16(output, s + 4, y);
     codec::put_value(output, s + 6, z);
@@ -198,7 +195,7 @@ fn put_point(x: u16, y: u16, z: i64, s: usize, output: &mut [u8])
 // All point records.
 fn put_points(xs: &[u16], ys: &[u16], zs: &[i64], output: &mut [u8])
     requires { ⌜ (length (now ys) ≡ length (now xs)) × (length (now zs) ≡ length (now xs)) × (8 + 14 * length (now xs) ≤ length (now output)) ⌝ }
-    ensures { λ _. ⌜ now (output .exit) ≡ laid 8 (joined (length (now (xs .entry))) (recordOf (now (xs .entry)) (now (ys .entry)) (now (zs .entry)))) (now (output .entry)) ⌝ }
+    ensures { λ _. ⌜ now (output .exit) ≡ laid 8 (joined (length (now (xs .entry))) (recordOf (survey (now (xs .entry)) (now (ys .entry)) (now (zs .entry))))) (now (output .entry)) ⌝ }
 {
     let mut i = 0;
     while i < xs.len() {
@@ -216,8 +213,7 @@ pub fn write_points(
     zs: &[i64],
     output: &mut [u8],
 ) -> PointsWritten
-    ensures { λ r. ⌜ writtenTold r ≡ rule.writePointsAnswer (shape m0 n0 h) (now (xs .entry)) (now (ys .entry)) (now (zs .entry)) (now (output .entry)) ⌝ }
-    ensures { λ _. ⌜ now (output .exit) ≡ rule.writePointsLeaves (shape m0 n0 h) (now (xs .entry)) (now (ys .entry)) (now (zs .entry)) (now (output .entry)) ⌝ }
+    ensures { λ r. ⌜ outcome (writtenTold r) (now (output .exit)) ≡ rule.writePointsCall (shape m0 n0 h) (survey (now (xs .entry)) (now (ys .entry)) (now (zs .entry))) (now (output .entry)) ⌝ }
 {
     if let Verdict::Refused(r) = survey::head(m0, n0, h, xs, ys, zs) {
         return PointsWritten::Refused(r);

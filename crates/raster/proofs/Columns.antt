@@ -1,46 +1,39 @@
--- A strip's columns: their positions are on the grid, and what `locate` and `basis_of` tell of a position is its place.
-use mathlib.Core.Path.{_≡_, _∙_}
+-- A strip's columns: their positions are on the grid, their cells and numerators are stored, and the sum of a lattice row at a column is read by them.
+use mathlib.Core.Path.{_≡_, refl, _∙_}
 use mathlib.Core.List.{List}
 use Prim.Native.Nat.{ℕ, _+_, _*_, _^_, _≤_, _<_}
 use native.Mathlib.Nat.{le-trans}
 use native.Mathlib.Decide.{decLt}
 use native.Mathlib.Omega.{arith}
-use lib.IntN.{ℤ, pos}
+use lib.IntN.{ℤ, pos, natAbs}
 use lib.ListN.{length, getD, set, length-set}
-use lib.Pow.{pow-pos, pow-mono}
 use lib.Seq.{getD-set-same, getD-set-other}
+use Rattle.machine.specs.Held.{read, itself}
+use Rattle.rules.specs.Rounding.{near}
+use Rattle.rules.specs.Surface.{denominator, weighted}
 use Rattle.checks.specs.Passed.{edge-fits}
-use Rattle.heights.specs.Reading.{Weighs, Located, weight}
-use Rattle.heights.specs.Sums.{On, Placed, offset-most}
+use Rattle.heights.specs.Reading.{numerators, weightSize, Weighable}
+use Rattle.heights.specs.Sums.{On, Based, on-grid, back, row-asked, row-is}
 use Rattle.heights.specs.declared.Basis.{Basis}
-use Rattle.heights.specs.declared.Spot.{Spot}
-use Rattle.raster.specs.Strips.{Columns, tapsAt, Tapped}
+use Rattle.raster.specs.Strips.{columnX, StripInside, tapsAt, put, basisBack, Taps, Tapped, columnSum}
 use Rattle.raster.specs.declared.Strip.{Strip}
-use Rattle.raster.proofs.Taps.{basisBack, basis-back}
 
-pub on-grid : (e m x : ℕ) → e ≤ 9 → 0 < m → x ≤ 2 ^ e * m → On (2 ^ e) m x
-on-grid e m x h k l = record { unit = pow-pos e; unit-most = pow-mono {j = 9} h; cells = k; inside = l }
+module _ {s : Strip} (c : StripInside s) (i : ℕ) (h : i < s .w) where
+  pub column-fits : columnX s i ≤ 512 * 512
+  column-fits = le-trans (c .inside i h) (edge-fits (s .e) (s .m) (c .grid .e-most) (c .grid .m-most))
 
--- what `basis_of` asks of a position, and what it and `locate` tell of it
-module _ {U unit m x : ℕ} {p : Spot} (is : unit ≡ U) (o : On U m x) (found : Located p U m x) where
-  pub unit-asked : (unit ≤ 512) × (p .offset ≤ unit)
-  unit-asked = rw (is, found .offset-is) (o .unit-most, offset-most o)
+  pub on-column : On (2 ^ s .e) (s .m) (columnX s i)
+  on-column = on-grid (s .e) (s .m) (columnX s i) (c .grid .e-most) (c .grid .m-some) (c .inside i h)
 
-  pub placed : {b : Basis} → Weighs b unit (p .offset) → Placed U m x b (p .cell)
-  placed w = record { weighs = rw (is, found .offset-is) at w; cell-is = found .cell-is }
+-- ---- numerators, read back from their bits
 
-module _ {s : Strip} (c : Columns s) where
-  pub position-fits : (i : ℕ) → i < s .w → s .x + s .step * i ≤ 512 * 512
-  position-fits i h = le-trans (c .inside i h) (edge-fits (s .e) (s .m) (c .exponent) (c .cells-most))
-
-  pub on-column : (i : ℕ) → i < s .w → On (2 ^ s .e) (s .m) (s .x + s .step * i)
-  on-column i h = on-grid (s .e) (s .m) (s .x + s .step * i) (c .exponent) (c .cells) (c .inside i h)
+pub basis-back : (b : Basis) → weightSize b ≤ 805_306_368 → basisBack b ≡ b
+basis-back b h = rw (plain (b .b0) (omega arith), plain (b .b1) (omega arith), plain (b .b2) (omega arith), plain (b .b3) (omega arith))
+  where
+    plain : (v : ℤ) → natAbs v ≤ 805_306_368 → back v ≡ v
+    plain v k = read tt (itself v 805_306_368 k) .is
 
 -- ---- the numerators of one column more
-
--- the four numerators of column i, stored
-abbrev put : List ℤ → ℕ → Basis → List ℤ
-put taps i b = set (set (set (set taps (4 * i) (b .b0)) (4 * i + 1) (b .b1)) (4 * i + 2) (b .b2)) (4 * i + 3) (b .b3)
 
 module _ (taps : List ℤ) (i : ℕ) (b : Basis) where
   abbrev one : List ℤ
@@ -84,12 +77,32 @@ module _ (taps : List ℤ) (i : ℕ) (b : Basis) where
       at3 = getD-set-same three (4 * i + 3) (b .b3) (pos 0) (simp length-set (omega arith))
 
 pub tapped-more : (s : Strip) (i : ℕ) (cells : List ℕ) (taps : List ℤ) {b : Basis} {k : ℕ} → i < 64 → length cells ≡ 64 → length taps ≡ 256
-    → weight b ≤ 805_306_368 → Tapped s i cells taps → Placed (2 ^ s .e) (s .m) (s .x + s .step * i) b k
-    → Tapped s (i + 1) (set cells i k) (put taps i (basisBack b))
+    → weightSize b ≤ 805_306_368 → Taps s i cells taps → Based (2 ^ s .e) (s .m) (columnX s i) b k
+    → Taps s (i + 1) (set cells i k) (put taps i (basisBack b))
 tapped-more s i cells taps {b} {k} h c t w had new j l = go (decLt j i)
   where
-    go : Dec (j < i) → Placed (2 ^ s .e) (s .m) (s .x + s .step * j) (tapsAt (put taps i (basisBack b)) j) (getD (set cells i k) j 0)
+    go : Dec (j < i) → Based (2 ^ s .e) (s .m) (columnX s j) (tapsAt (put taps i (basisBack b)) j) (getD (set cells i k) j 0)
     go (yes d) = rw (put-other taps i (basisBack b) j d, getD-set-other cells i j k 0 (omega arith)) (had j d)
     go (no d) =
         let same : j ≡ i = omega arith in
         rw (same, put-same taps i (basisBack b) h t, getD-set-same cells i k 0 (omega arith), basis-back b w) new
+
+-- ---- the sum of a lattice row at a column
+
+-- what `row_height` asks and returns of column i and lattice row r, with the numerators that are read back
+module _ {s : Strip} {l : List ℤ} {cells : List ℕ} {taps : List ℤ} (t : Tapped s l cells taps) (r i : ℕ) (h : r < s .n + 3) (k : i < s .w) where
+  abbrev q : ℕ
+  q = r * (s .m + 3) + getD cells i 0
+
+  pub asked : Weighable l q (tapsAt taps i) (s .e)
+  asked = row-asked (t .ground) (on-column (t .columns) i k) (t .tapped i k) r q h refl
+
+  module _ {b : Basis} (is : b ≡ basisBack (tapsAt taps i)) where
+    same : b ≡ tapsAt taps i
+    same = is ∙ basis-back (tapsAt taps i) (asked .weight-most)
+
+    pub asked-back : Weighable l q b (s .e)
+    asked-back = rw same asked
+
+    pub sum-back : near (weighted (numerators b) (λ p. getD l p (pos 0)) q) (denominator (2 ^ s .e)) ≡ columnSum s l r i
+    sum-back = rw same (row-is (t .tapped i k) l r q refl)

@@ -1,9 +1,6 @@
 -- What the proofs of several functions share.
-pub mod Nodes
-pub mod Taps
 pub mod Columns
 pub mod Ring
 pub mod Row
 pub mod Stripes
 pub mod Within
-pub mod Checked

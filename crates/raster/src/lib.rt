@@ -2,34 +2,35 @@
 // The nodes are worked in strips of 64 columns. A strip keeps the rounded x sums of the last four lattice rows in a ring, so that a lattice row is
 // summed once for all the raster rows that use it, and a node costs one rounding.
 ghost use mathlib.Core.Path.{_≡_};
-ghost use Prim.Native.Nat.{ℕ, _*_, _≤_, _<_, min, max};
-ghost use lib.ListN.{length};
+ghost use Prim.Native.Nat.{ℕ, _+_, _*_, _%_, _≤_, _<_, min, max};
+ghost use mathlib.Core.List.{List};
+ghost use lib.IntN.{ℤ, pos};
+ghost use lib.ListN.{length, getD};
 ghost use Rattle.algebra.specs.Table.{tabulate, over, laid};
+ghost use Rattle.rules.specs.Answers.{outcome};
 ghost use Rattle.rules.specs.Calls as calls;
-ghost use Rattle.answers.specs.Cause.{check};
-ghost use Rattle.heights.specs.Reading.{Grounded, weight};
-ghost use Rattle.raster.specs.Sampled.{told, nodes, nodesCheck, NodesInside, nodeHeight};
-ghost use Rattle.raster.specs.Strips.{Columns, Tapped, Summable, sumAt, Rows, Ringed, RingInRange, nodeAt, Ready, RowReady, RowDone, Room, stripHeight, Striped};
+ghost use Rattle.checks.specs.Found.{Tells};
+ghost use Rattle.heights.specs.Reading.{Grounded, weightSize};
+ghost use Rattle.heights.specs.Sums.{back};
+ghost use Rattle.raster.specs.Sampled.{told, Samplable, nodeHeight};
+ghost use Rattle.raster.specs.Strips.{StripInside, tapsAt, put, basisBack, Taps, Tapped, columnSum, Ringed, RingInRange, nodeAt, RowDue, RowDone, Room, heightAt, Striped};
 use answers::Refusal;
 use answers::Verdict;
-use checks::Exponent;
+use checks::Readiness;
 use heights::Basis;
-
-// "Step 0 stands for 16"
-const DEFAULT_STEP: usize = 16;
 
 pub enum Sampled {
     Nodes(usize),
     Refused(Refusal),
 }
 
-// w columns of a raster, from column on; x is the position of the first.
+// w columns of a raster, from column on.
 struct Strip {
     m: usize,
     n: usize,
     unit: usize,
     e: u32,
-    x: usize,
+    x0: usize,
     y0: usize,
     step: usize,
     columns: usize,
@@ -49,147 +50,129 @@ fn greater(a: usize, b: usize) -> usize
     if a < b { b } else { a }
 }
 
-// 5: the first node outside, where nodes go row by row. Positions past the grid are never computed: x0 and y0 are tested first.
-fn positions(
-    right: usize,
-    top: usize,
-    x0: usize,
-    y0: usize,
-    step: usize,
-    columns: usize,
-    rows: usize,
-) -> Verdict
-    requires { ⌜ (0 < step) × (right ≤ 262_144) × (top ≤ 262_144) × (columns ≤ 8_193) × (rows ≤ 8_193) ⌝ }
-    ensures { λ r. ⌜ check r ≡ nodesCheck right top x0 y0 step columns rows ⌝ }
+// The numerators of column i, stored.
+fn store_taps(b: Basis, i: usize, taps: &mut [i64; 256])
+    requires { ⌜ (i < 64) × (length (now taps) ≡ 256) ⌝ }
+    ensures { λ _. ⌜ now (taps .exit) ≡ put (now (taps .entry)) i (basisBack b) ⌝ }
 {
-    if columns == 0 {
-        return Verdict::Fine;
-    }
-    if rows == 0 {
-        return Verdict::Fine;
-    }
-    if right < x0 {
-        return Verdict::Refused(Refusal::Position(0));
-    }
-    if top < y0 {
-        return Verdict::Refused(Refusal::Position(0));
-    }
-    let across = (right - x0) / step + 1;
-    if across < columns {
-        return Verdict::Refused(Refusal::Position(across));
-    }
-    let down = (top - y0) / step + 1;
-    if down < rows {
-        return Verdict::Refused(Refusal::Position(down * columns));
-    }
-    Verdict::Fine
+    let b0 = b.b0;
+    let b1 = b.b1;
+    let b2 = b.b2;
+    let b3 = b.b3;
+    taps[4 * i] = b0;
+    taps[4 * i + 1] = b1;
+    taps[4 * i + 2] = b2;
+    taps[4 * i + 3] = b3;
 }
 
 // Cells and numerators of the strip's columns: four numerators a column.
 fn column_taps(s: Strip, cells: &mut [usize; 64], taps: &mut [i64; 256])
-    requires { ⌜ Columns s × (length (now cells) ≡ 64) × (length (now taps) ≡ 256) ⌝ }
-    ensures { λ _. ⌜ Tapped s (s .w) (now (cells .exit)) (now (taps .exit)) ⌝ }
+    requires { ⌜ StripInside s × (length (now cells) ≡ 64) × (length (now taps) ≡ 256) ⌝ }
+    ensures { λ _. ⌜ Taps s (s .w) (now (cells .exit)) (now (taps .exit)) ⌝ }
 {
     let mut i = 0;
     while i < s.w {
-        let at = heights::locate(s.x + s.step * i, s.m, s.e);
+        let at = heights::locate(s.x0 + s.step * (s.column + i), s.m, s.e);
         let b = heights::basis_of(s.unit, at.offset);
-        let b0 = b.b0;
-        let b1 = b.b1;
-        let b2 = b.b2;
-        let b3 = b.b3;
         cells[i] = at.cell;
-        taps[4 * i] = b0;
-        taps[4 * i + 1] = b1;
-        taps[4 * i + 2] = b2;
-        taps[4 * i + 3] = b3;
+        store_taps(b, i, taps);
         i += 1;
     }
 }
 
-// The rounded x sum of the lattice row that starts at place q, at column i.
-fn tap_sum(
-    lattice: &[i64],
-    q: usize,
-    e: u32,
-    cells: &[usize; 64],
-    taps: &[i64; 256],
-    i: usize,
-) -> i64
-    requires { ⌜ (i < 64) × Summable q e (now lattice) (now cells) (now taps) i ⌝ }
-    ensures { λ r. ⌜ r ≡ sumAt e (now (lattice .entry)) (now (cells .entry)) (now (taps .entry)) q i ⌝ }
+// The numerators of column i.
+fn load_taps(taps: &[i64; 256], i: usize) -> Basis
+    requires { ⌜ i < 64 ⌝ }
+    ensures { λ b. ⌜ b ≡ basisBack (tapsAt (now (taps .entry)) i) ⌝ }
 {
-    let b = Basis {
+    Basis {
         b0: taps[4 * i],
         b1: taps[4 * i + 1],
         b2: taps[4 * i + 2],
         b3: taps[4 * i + 3],
-    };
-    let c = cells[i];
-    heights::row_height(lattice, q + c, b, e)
+    }
 }
 
-// The rounded x sums of the lattice row that starts at place q, for w columns, at the ring's places from at on.
-fn row_sums(
+// The rounded x sum of lattice row r at column i.
+fn tap_sum(
+    s: Strip,
     lattice: &[i64],
-    q: usize,
-    e: u32,
-    w: usize,
     cells: &[usize; 64],
     taps: &[i64; 256],
-    at: usize,
+    r: usize,
+    i: usize,
+) -> i64
+    requires { ⌜ Tapped s (now lattice) (now cells) (now taps) × (r < s .n + 3) × (i < s .w) ⌝ }
+    ensures { λ z. ⌜ z ≡ columnSum s (now (lattice .entry)) r i ⌝ }
+{
+    let b = load_taps(taps, i);
+    let c = cells[i];
+    heights::row_height(lattice, r * (s.m + 3) + c, b, s.e)
+}
+
+// The ring with lattice row r summed too.
+fn row_sums(
+    s: Strip,
+    lattice: &[i64],
+    cells: &[usize; 64],
+    taps: &[i64; 256],
+    r: usize,
     ring: &mut [i64; 256],
 )
-    requires { ⌜ (w ≤ 64) × (at ≤ 192) × (length (now ring) ≡ 256) × ((i : ℕ) → i < w → Summable q e (now lattice) (now cells) (now taps) i) ⌝ }
-    ensures { λ _. ⌜ now (ring .exit) ≡ laid at (tabulate w (sumAt e (now (lattice .entry)) (now (cells .entry)) (now (taps .entry)) q)) (now (ring .entry)) ⌝ }
+    requires { ⌜ Tapped s (now lattice) (now cells) (now taps) × (r < s .n + 3) × (length (now ring) ≡ 256) ⌝ }
+    ensures { λ _. ⌜ now (ring .exit) ≡ laid (r % 4 * 64) (tabulate (s .w) (columnSum s (now (lattice .entry)) r)) (now (ring .entry)) ⌝ }
 {
+    let at = r % 4 * 64;
     let mut i = 0;
-    while i < w {
-        ring[at + i] = tap_sum(lattice, q, e, cells, taps, i);
+    while i < s.w {
+        ring[at + i] = tap_sum(s, lattice, cells, taps, r, i);
         i += 1;
     }
 }
 
 // The ring with lattice rows next to last - 1 summed too.
 fn advance(
+    s: Strip,
     lattice: &[i64],
-    m: usize,
-    e: u32,
-    w: usize,
     cells: &[usize; 64],
     taps: &[i64; 256],
     next: usize,
     last: usize,
     ring: &mut [i64; 256],
 )
-    requires { ⌜ (m ≤ 512) × (w ≤ 64) × (next ≤ last) × (length (now ring) ≡ 256) × Rows m e w last (now lattice) (now cells) (now taps) ⌝ }
-    ensures { λ _. ⌜ (length (now (ring .exit)) ≡ 256) × ((lo : ℕ) → Ringed m e w (now (lattice .entry)) (now (cells .entry)) (now (taps .entry)) lo next (now (ring .entry)) → Ringed m e w (now (lattice .entry)) (now (cells .entry)) (now (taps .entry)) lo last (now (ring .exit))) ⌝ }
+    requires { ⌜ Tapped s (now lattice) (now cells) (now taps) × (next ≤ last) × (last ≤ s .n + 3) × Ringed s (now lattice) last next (now ring) ⌝ }
+    ensures { λ _. ⌜ Ringed s (now (lattice .entry)) last last (now (ring .exit)) ⌝ }
 {
     let mut r = next;
     while r < last {
-        row_sums(lattice, r * (m + 3), e, w, cells, taps, r % 4 * 64, ring);
+        row_sums(s, lattice, cells, taps, r, ring);
         r += 1;
     }
 }
 
+// The ring's sum of lattice row r at column i.
+fn ring_sum(ring: &[i64; 256], r: usize, i: usize) -> i64
+    requires { ⌜ i < 64 ⌝ }
+    ensures { λ z. ⌜ z ≡ back (getD (now (ring .entry)) (r % 4 * 64 + i) (pos 0)) ⌝ }
+{
+    ring[r % 4 * 64 + i]
+}
+
 // The node of column i, from the ring's sums of the four lattice rows from cell on.
 fn node(ring: &[i64; 256], cell: usize, b: Basis, e: u32, i: usize) -> i64
-    requires { ⌜ (cell ≤ 512) × (e ≤ 9) × (weight b ≤ 805_306_368) × (i < 64) × RingInRange cell i (now ring) ⌝ }
+    requires { ⌜ (cell ≤ 512) × (e ≤ 9) × (weightSize b ≤ 805_306_368) × (i < 64) × RingInRange cell i (now ring) ⌝ }
     ensures { λ r. ⌜ r ≡ nodeAt e b (now (ring .entry)) cell i ⌝ }
 {
-    let p0 = cell % 4 * 64 + i;
-    let p1 = (cell + 1) % 4 * 64 + i;
-    let p2 = (cell + 2) % 4 * 64 + i;
-    let p3 = (cell + 3) % 4 * 64 + i;
-    heights::near_over(
-        heights::weighed(b, ring[p0], ring[p1], ring[p2], ring[p3]),
-        e,
-    )
+    let p0 = ring_sum(ring, cell, i);
+    let p1 = ring_sum(ring, cell + 1, i);
+    let p2 = ring_sum(ring, cell + 2, i);
+    let p3 = ring_sum(ring, cell + 3, i);
+    roundings::near_over(heights::weighed(b, p0, p1, p2, p3), e)
 }
 
 // w nodes of one raster row.
 fn node_row(ring: &[i64; 256], cell: usize, b: Basis, e: u32, w: usize, nodes: &mut [i64])
-    requires { ⌜ (cell ≤ 512) × (e ≤ 9) × (weight b ≤ 805_306_368) × (w ≤ 64) × (w ≤ length (now nodes)) × ((i : ℕ) → i < w → RingInRange cell i (now ring)) ⌝ }
+    requires { ⌜ (cell ≤ 512) × (e ≤ 9) × (weightSize b ≤ 805_306_368) × (w ≤ 64) × (w ≤ length (now nodes)) × ((i : ℕ) → i < w → RingInRange cell i (now ring)) ⌝ }
     ensures { λ _. ⌜ now (nodes .exit) ≡ over (tabulate w (nodeAt e b (now (ring .entry)) cell)) (now (nodes .entry)) ⌝ }
 {
     let mut i = 0;
@@ -210,15 +193,14 @@ fn strip_row(
     ring: &mut [i64; 256],
     output: &mut [i64],
 ) -> usize
-    requires { ⌜ Ready s (now lattice) × Tapped s (s .w) (now cells) (now taps) ⌝ }
-    requires { ⌜ RowReady s j next (now lattice) (now cells) (now taps) (now ring) (length (now output)) ⌝ }
-    ensures { λ r. ⌜ RowDone s j r (now (lattice .entry)) (now (cells .entry)) (now (taps .entry)) (now (ring .exit)) (now (output .entry)) (now (output .exit)) ⌝ }
+    requires { ⌜ RowDue s j next (now lattice) (now cells) (now taps) (now ring) (length (now output)) ⌝ }
+    ensures { λ r. ⌜ RowDone s j r (now (lattice .entry)) (now (ring .exit)) (now (output .entry)) (now (output .exit)) ⌝ }
 {
     let up = heights::locate(s.y0 + s.step * j, s.n, s.e);
     let cell = up.cell;
     let from = greater(next, cell);
     let last = cell + 4;
-    advance(lattice, s.m, s.e, s.w, cells, taps, from, last, ring);
+    advance(s, lattice, cells, taps, from, last, ring);
     let b = heights::basis_of(s.unit, up.offset);
     let start = j * s.columns + s.column;
     let end = start + s.w;
@@ -236,9 +218,8 @@ fn strip_rows(
     ring: &mut [i64; 256],
     output: &mut [i64],
 )
-    requires { ⌜ Ready s (now lattice) × Tapped s (s .w) (now cells) (now taps) ⌝ }
-    requires { ⌜ Room s rows (length (now output)) × (length (now ring) ≡ 256) ⌝ }
-    ensures { λ _. ⌜ Striped (s .columns) rows (s .column) (s .w) (stripHeight s (now (lattice .entry))) (now (output .entry)) (now (output .exit)) ⌝ }
+    requires { ⌜ Tapped s (now lattice) (now cells) (now taps) × Room s rows (length (now output)) × (length (now ring) ≡ 256) ⌝ }
+    ensures { λ _. ⌜ Striped (s .columns) rows (s .column) (s .column + s .w) (heightAt s (now (lattice .entry))) (now (output .entry)) (now (output .exit)) ⌝ }
 {
     let mut next = 0;
     let mut j = 0;
@@ -250,9 +231,8 @@ fn strip_rows(
 
 // The nodes of a strip.
 fn whole_strip(s: Strip, rows: usize, lattice: &[i64], output: &mut [i64])
-    requires { ⌜ Ready s (now lattice) ⌝ }
-    requires { ⌜ Room s rows (length (now output)) ⌝ }
-    ensures { λ _. ⌜ Striped (s .columns) rows (s .column) (s .w) (stripHeight s (now (lattice .entry))) (now (output .entry)) (now (output .exit)) ⌝ }
+    requires { ⌜ StripInside s × Grounded (s .m) (s .n) (s .e) (now lattice) × Room s rows (length (now output)) ⌝ }
+    ensures { λ _. ⌜ Striped (s .columns) rows (s .column) (s .column + s .w) (heightAt s (now (lattice .entry))) (now (output .entry)) (now (output .exit)) ⌝ }
 {
     let mut cells = [0; 64];
     let mut taps = [0; 256];
@@ -262,7 +242,7 @@ fn whole_strip(s: Strip, rows: usize, lattice: &[i64], output: &mut [i64])
 }
 
 // The raster of a lattice and of nodes that are known to be in range and inside.
-pub fn raster_within(
+fn raster_within(
     m: usize,
     n: usize,
     e: u32,
@@ -274,14 +254,14 @@ pub fn raster_within(
     rows: usize,
     output: &mut [i64],
 )
-    requires { ⌜ Grounded m n e (now lattice) ⌝ }
-    requires { ⌜ NodesInside m n e x0 y0 step columns rows × (columns * rows ≤ length (now output)) ⌝ }
-    ensures { λ _. ⌜ now (output .exit) ≡ over (tabulate (columns * rows) (nodeHeight m n e (now (lattice .entry)) x0 y0 step columns)) (now (output .entry)) ⌝ }
+    requires { ⌜ Samplable m n e (now lattice) (calls.nodes x0 y0 step columns rows) (length (now output)) ⌝ }
+    ensures { λ _. ⌜ now (output .exit) ≡ over (tabulate (columns * rows) (nodeHeight m n e (now (lattice .entry)) (calls.nodes x0 y0 step columns rows))) (now (output .entry)) ⌝ }
 {
     if rows == 0 {
         return;
     }
     let unit = 1 << e;
+    let by = nodes::step_of(step);
     let mut column = 0;
     while column < columns {
         let w = lesser(columns - column, 64);
@@ -290,9 +270,9 @@ pub fn raster_within(
             n,
             unit,
             e,
-            x: x0 + step * column,
+            x0,
             y0,
-            step,
+            step: by,
             columns,
             column,
             w,
@@ -302,11 +282,38 @@ pub fn raster_within(
     }
 }
 
-// "Step 0 stands for 16"
-fn step_of(step: usize) -> usize
-    ensures { λ r. ⌜ r ≡ calls.stepOf step ⌝ }
+// The checks of a raster in document 01's order: 1, 2, 8, 4, 6 and 5. The output has room for so many nodes.
+fn samplable(
+    m: usize,
+    n: usize,
+    unit: usize,
+    lattice: &[i64],
+    x0: usize,
+    y0: usize,
+    step: usize,
+    columns: usize,
+    rows: usize,
+    room: usize,
+) -> Readiness
+    ensures { λ r. ⌜ ((d : List ℤ) → length d ≡ room → Tells (calls.rasterCheck m n unit (now (lattice .entry)) (calls.nodes x0 y0 step columns rows) d) unit (λ e. Samplable m n e (now (lattice .entry)) (calls.nodes x0 y0 step columns rows) room) r) ⌝ }
 {
-    if step == 0 { DEFAULT_STEP } else { step }
+    let grid = checks::gridded(m, n, unit);
+    let Readiness::Of(_) = grid else {
+        return grid;
+    };
+    if let Verdict::Refused(r) = nodes::sizes(step, columns, rows) {
+        return Readiness::Refused(r);
+    }
+    if room < columns * rows {
+        return Readiness::Refused(Refusal::Short);
+    }
+    if let Verdict::Refused(r) = checks::stored(m, n, lattice) {
+        return Readiness::Refused(r);
+    }
+    if let Verdict::Refused(r) = nodes::positions(unit * m, unit * n, x0, y0, step, columns, rows) {
+        return Readiness::Refused(r);
+    }
+    grid
 }
 
 pub fn raster(
@@ -321,37 +328,14 @@ pub fn raster(
     rows: usize,
     output: &mut [i64],
 ) -> Sampled
-    ensures { λ r. ⌜ told r ≡ calls.rasterAnswer m n unit (now (lattice .entry)) (nodes x0 y0 step columns rows) (now (output .entry)) ⌝ }
-    ensures { λ _. ⌜ now (output .exit) ≡ calls.rasterLeaves m n unit (now (lattice .entry)) (nodes x0 y0 step columns rows) (now (output .entry)) ⌝ }
+    ensures { λ r. ⌜ outcome (told r) (now (output .exit)) ≡ calls.rasterCall m n unit (now (lattice .entry)) (calls.nodes x0 y0 step columns rows) (now (output .entry)) ⌝ }
 {
-    if let Verdict::Refused(r) = checks::cells(512, m, n) {
-        return Sampled::Refused(r);
+    let room = output.len();
+    match samplable(m, n, unit, lattice, x0, y0, step, columns, rows, room) {
+        Readiness::Of(e) => {
+            raster_within(m, n, e, lattice, x0, y0, step, columns, rows, output);
+            Sampled::Nodes(columns * rows)
+        }
+        Readiness::Refused(r) => Sampled::Refused(r),
     }
-    let Exponent::Of(e) = checks::listed_unit(unit) else {
-        return Sampled::Refused(Refusal::Unit);
-    };
-    if 8_192 < step {
-        return Sampled::Refused(Refusal::Size);
-    }
-    if 8_193 < columns {
-        return Sampled::Refused(Refusal::Size);
-    }
-    if 8_193 < rows {
-        return Sampled::Refused(Refusal::Size);
-    }
-    if lattice.len() < (m + 3) * (n + 3) {
-        return Sampled::Refused(Refusal::Short);
-    }
-    if output.len() < columns * rows {
-        return Sampled::Refused(Refusal::Short);
-    }
-    if let Verdict::Refused(r) = checks::lattice(m, n, lattice) {
-        return Sampled::Refused(r);
-    }
-    let by = step_of(step);
-    if let Verdict::Refused(r) = positions(unit * m, unit * n, x0, y0, by, columns, rows) {
-        return Sampled::Refused(r);
-    }
-    raster_within(m, n, e, lattice, x0, y0, by, columns, rows, output);
-    Sampled::Nodes(columns * rows)
 }

@@ -1,5 +1,5 @@
 -- What a refinement promises beyond its equations with the rules: "Refine never gives 7", and the values that an accepted one writes are in range.
-use mathlib.Core.Path.{_≡_, refl, sym, ap, subst, _∙_}
+use mathlib.Core.Path.{_≡_, refl, subst}
 use mathlib.Core.Bool.{false, _&&_}
 use mathlib.Core.Option.{none}
 use mathlib.Core.List.{List}
@@ -11,11 +11,12 @@ use lib.ListN.{length}
 use Rattle.algebra.specs.Table.{over, getD-over}
 use Rattle.rules.specs.Grid.{limit, within, controls, control, store}
 use Rattle.rules.specs.Refinement.{refined}
-use Rattle.rules.specs.Answers.{Refusal, cells, short, range, number, inLevels, Check, require, _then_, accepted, refused, left}
-use Rattle.rules.specs.Calls.{Cells, cellsCheck, latticeCheck, refineCheck, refineAnswer, refineLeaves}
-use Rattle.rules.specs.Laws.Checks.{Only, only-require, only-then, only-rangeCheck, then-rest, AllInRange, answer-none, answer-value, answer-refused}
+use Rattle.rules.specs.Answers.{Refusal, cells, short, range, number, inLevels, accepted, refused, outcome}
+use Rattle.rules.specs.Calls.{CellCounts, cellsCheck, latticeCheck, refineCheck, refineCall}
+use Rattle.rules.specs.Laws.Checks.{Only, only-require, only-then, only-rangeCheck, then-rest, AllInRange}
+use Rattle.rules.specs.Laws.Checks.{call-unrefused, call-value, call-after, call-refusal}
+use Rattle.rules.specs.Laws.Passed.{lattice-passed}
 use Rattle.rules.specs.Laws.Surface.{Bounded, control-within, refined-within, length-store, store-within}
-use Rattle.checks.specs.Passed.{lattice-passed}
 use Rattle.refinement.specs.Refined.{told}
 use Rattle.refinement.specs.declared.Refined.{Refined}
 
@@ -33,34 +34,29 @@ before-7 m n l o =
 -- what its checks leave: control values in range, old and new
 new-values : (m n : ℕ) (l o : List ℤ) → refineCheck m n l o ≡ none → Bounded (2 * m) (2 * n) (refined (control m l)) limit
 unfolding refineCheck
-new-values m n l o e =
-    let lengths : Check = require (leb (controls m n) (length l) && leb (controls (2 * m) (2 * n)) (length o)) short in
-    let rest = then-rest lengths (latticeCheck m n l) (then-rest (cellsCheck 256 m n) (lengths then latticeCheck m n l) e) in
-    refined-within m n (control m l) limit (control-within m n l (lattice-passed m n l rest))
+new-values m n l o e = refined-within m n (control m l) limit (control-within m n l (lattice-passed m n l (then-rest _ _ (then-rest _ _ e))))
 
 -- ---- the promises
 
-module _ (m n : ℕ) (lattice before after : List ℤ) (r : Refined) (rules : told r ≡ refineAnswer m n lattice before) (output : after ≡ refineLeaves m n lattice before) where
+module _ (m n : ℕ) (lattice before after : List ℤ) (r : Refined) (rules : outcome (told r) after ≡ refineCall m n lattice before) where
   pub never-7 : (f : Refusal) → told r ≡ refused f → Before7 f
-  unfolding refineAnswer
-  never-7 f e = before-7 m n lattice before .only f (answer-refused (refineCheck m n lattice before) (record { m = 2 * m; n = 2 * n }) f (sym rules ∙ e))
+  unfolding refineCall
+  never-7 f e = before-7 m n lattice before .only f (call-refusal _ _ _ before (told r) after rules f e)
 
-  module _ (c : Cells) (e : told r ≡ accepted c) where
-    passed : refineCheck m n lattice before ≡ none
-    unfolding refineAnswer
-    passed = answer-none (refineCheck m n lattice before) (record { m = 2 * m; n = 2 * n }) c (sym rules ∙ e)
-
+  module _ (c : CellCounts) (e : told r ≡ accepted c) where
     written : after ≡ over (store (2 * m) (2 * n) (refined (control m lattice))) before
-    unfolding refineLeaves left
-    written = output ∙ ap (λ a. left a (store (2 * m) (2 * n) (refined (control m lattice))) before) (sym rules ∙ e)
+    unfolding refineCall
+    written = call-after (refineCheck m n lattice before) _ _ before (told r) after rules c e
 
     new-range : AllInRange (controls (2 * m) (2 * n)) after
+    unfolding refineCall
     new-range i h =
-        rw (written, getD-over (store (2 * m) (2 * n) (refined (control m lattice))) before i (pos 0) (rw (length-store (2 * m) (2 * n) (refined (control m lattice))) h))
-        (store-within (2 * m) (2 * n) (refined (control m lattice)) limit (new-values m n lattice before passed) i h)
+        let new = store (2 * m) (2 * n) (refined (control m lattice)) in
+        let unrefused = call-unrefused (refineCheck m n lattice before) _ _ before (told r) after rules c e in
+        rw (written, getD-over new before i (pos 0) (rw (length-store (2 * m) (2 * n) (refined (control m lattice))) h))
+        (store-within (2 * m) (2 * n) (refined (control m lattice)) limit (new-values m n lattice before unrefused) i h)
 
     pub in-range : AllInRange (controls (c .m) (c .n)) after
-    unfolding refineAnswer
+    unfolding refineCall
     in-range =
-        subst (λ (k : Cells). AllInRange (controls (k .m) (k .n)) after) (answer-value (refineCheck m n lattice before) (record { m = 2 * m; n = 2 * n }) c (sym rules ∙ e))
-        new-range
+        subst (λ (k : CellCounts). AllInRange (controls (k .m) (k .n)) after) (call-value (refineCheck m n lattice before) _ _ before (told r) after rules c e) new-range

@@ -9,7 +9,8 @@ ghost use Rattle.algebra.specs.Table.{tabulate, over};
 ghost use Rattle.rules.specs.Rounding.{near};
 ghost use Rattle.rules.specs.Grid.{controls, control, store};
 ghost use Rattle.rules.specs.Refinement as rule;
-ghost use Rattle.rules.specs.Calls.{refineAnswer, refineLeaves};
+ghost use Rattle.rules.specs.Answers.{outcome};
+ghost use Rattle.rules.specs.Calls.{refineCall};
 ghost use Rattle.rules.specs.Laws.Checks.{AllInRange};
 ghost use Rattle.refinement.specs.Refined.{told, RowsRead};
 use answers::Refusal;
@@ -24,7 +25,7 @@ pub enum Refined {
 }
 
 // The old values that a mask weighs stand at c, c + 1 and, for an odd place, c + 2: a mask of two gives its third value no weight.
-pub fn weigh(odd: usize, a: i64, b: i64, c: i64) -> i64
+fn weigh(odd: usize, a: i64, b: i64, c: i64) -> i64
     requires { ⌜ (odd < 2) × (natAbs a ≤ 32_000_000_000) × (natAbs b ≤ 32_000_000_000) × (natAbs c ≤ 32_000_000_000) ⌝ }
     ensures { λ r. ⌜ r ≡ rule.masked odd (λ i. getD (a ∷ b ∷ c ∷ []) i (pos 0)) 0 ⌝ }
 {
@@ -32,7 +33,7 @@ pub fn weigh(odd: usize, a: i64, b: i64, c: i64) -> i64
 }
 
 // The same, with the parity tested first: the table is then read at a constant place, and a loop makes the test once.
-pub fn masked(odd: usize, a: i64, b: i64, c: i64) -> i64
+fn masked(odd: usize, a: i64, b: i64, c: i64) -> i64
     requires { ⌜ (odd < 2) × (natAbs a ≤ 32_000_000_000) × (natAbs b ≤ 32_000_000_000) × (natAbs c ≤ 32_000_000_000) ⌝ }
     ensures { λ r. ⌜ r ≡ rule.masked odd (λ i. getD (a ∷ b ∷ c ∷ []) i (pos 0)) 0 ⌝ }
 {
@@ -41,14 +42,6 @@ pub fn masked(odd: usize, a: i64, b: i64, c: i64) -> i64
     } else {
         weigh(1, a, b, c)
     }
-}
-
-// near(v / 64)
-pub fn near_64(v: i64) -> i64
-    requires { ⌜ natAbs v ≤ 256_000_000_000 ⌝ }
-    ensures { λ r. ⌜ r ≡ near v 64 ⌝ }
-{
-    (v + 32) >> 6
 }
 
 // The weighed sums down the columns for the new row t: places 0 to m + 2 of sums.
@@ -69,11 +62,11 @@ pub fn blend(m: usize, lattice: &[i64], t: usize, sums: &mut [i64; 259])
 }
 
 // The new value at place 2c + odd of a row, from the sums down its columns.
-pub fn refined_at(odd: usize, sums: &[i64; 259], c: usize) -> i64
+fn refined_at(odd: usize, sums: &[i64; 259], c: usize) -> i64
     requires { ⌜ (odd < 2) × (c + 1 + odd < 259) × ((s : ℕ) → s ≤ c + 1 + odd → natAbs (getD (now sums) s (pos 0)) ≤ 32_000_000_000) ⌝ }
     ensures { λ v. ⌜ v ≡ near (rule.masked odd (λ s. getD (now (sums .entry)) s (pos 0)) c) 64 ⌝ }
 {
-    near_64(masked(odd, sums[c], sums[c + 1], sums[c + 1 + odd]))
+    roundings::near_shift(masked(odd, sums[c], sums[c + 1], sums[c + 1 + odd]), 6)
 }
 
 // A new row of 2m + 3 values, from the sums down its columns.
@@ -90,37 +83,27 @@ pub fn refine_row(m: usize, sums: &[i64; 259], row: &mut [i64])
     row[2 * m + 2] = refined_at(0, sums, m + 1);
 }
 
-// The new row t of a lattice. What sums holds before and after is of no account.
-pub fn new_row(m: usize, lattice: &[i64], t: usize, sums: &mut [i64; 259], row: &mut [i64])
-    requires { ⌜ (m ≤ 256) × RowsRead m t (now lattice) × (length (now sums) ≡ 259) × (2 * m + 3 ≤ length (now row)) ⌝ }
-    ensures { λ _. ⌜ length (now (sums .exit)) ≡ 259 ⌝ }
-    ensures { λ _. ⌜ now (row .exit) ≡ over (tabulate (2 * m + 3) (λ s. rule.refined (control m (now (lattice .entry))) s t)) (now (row .entry)) ⌝ }
-{
-    blend(m, lattice, t, sums);
-    refine_row(m, sums, row);
-}
-
 // The refinement of a lattice that is known to be long enough and in range, into an output that is long enough.
-pub fn refine_within(m: usize, n: usize, lattice: &[i64], output: &mut [i64])
+fn refine_within(m: usize, n: usize, lattice: &[i64], output: &mut [i64])
     requires { ⌜ (m ≤ 256) × (n ≤ 256) × (controls m n ≤ length (now lattice)) × (controls (2 * m) (2 * n) ≤ length (now output)) × AllInRange (controls m n) (now lattice) ⌝ }
     ensures { λ _. ⌜ now (output .exit) ≡ over (store (2 * m) (2 * n) (rule.refined (control m (now (lattice .entry))))) (now (output .entry)) ⌝ }
 {
     let mut sums = [0; 259];
-    let w = 2 * m + 3;
-    let mut from = 0;
+    let width = 2 * m + 3;
+    let mut start = 0;
     let mut t = 0;
     while t < 2 * n + 3 {
-        let to = from + w;
-        new_row(m, lattice, t, &mut sums, &mut output[from..to]);
-        from = to;
+        blend(m, lattice, t, &mut sums);
+        let stop = start + width;
+        refine_row(m, &sums, &mut output[start..stop]);
+        start = stop;
         t += 1;
     }
 }
 
 // m by n cells become 2m by 2n, behind document 01's checks in their order.
 pub fn refine(m: usize, n: usize, lattice: &[i64], output: &mut [i64]) -> Refined
-    ensures { λ r. ⌜ told r ≡ refineAnswer m n (now (lattice .entry)) (now (output .entry)) ⌝ }
-    ensures { λ _. ⌜ now (output .exit) ≡ refineLeaves m n (now (lattice .entry)) (now (output .entry)) ⌝ }
+    ensures { λ r. ⌜ outcome (told r) (now (output .exit)) ≡ refineCall m n (now (lattice .entry)) (now (output .entry)) ⌝ }
 {
     if let Verdict::Refused(r) = checks::cells(256, m, n) {
         return Refined::Refused(r);

@@ -2,32 +2,29 @@
 use mathlib.Core.Path.{_≡_, refl, sym, ap, ap₂, _∙_}
 use mathlib.Core.Option.{none}
 use mathlib.Core.List.{List, _++_}
-use Prim.Native.Nat.{ℕ, zero, suc, _+_, _*_, _≤_}
+use Prim.Native.Nat.{ℕ, _+_, _*_, _≤_}
 use native.Mathlib.Nat.{mul-le-mul}
 use native.Mathlib.Omega.{arith}
 use borrow.Author.Tests.{le-leb}
 use lib.IntN.{ℤ}
-use lib.ListN.{length, replicate, length-replicate}
-use Rattle.algebra.specs.Table.{over}
+use lib.ListN.{length}
+use Rattle.algebra.specs.Table.{over, joined-same}
 use Rattle.rules.specs.Grid.{controls, control}
-use Rattle.rules.specs.Level.{Point}
-use Rattle.rules.specs.Fit.{Shape, columns, rows, pointsOf, running, levelsCheck}
-use Rattle.rules.specs.Answers.{Refusal, require, accepted, refused, left}
-use Rattle.rules.specs.Calls.{Cells, Lent, K, lentCheck, fitCheck, fitAnswer, fitLeaves}
+use Rattle.rules.specs.Fit.{Shape, columns, rows, Survey, pointCount, singleLattice, levelsCheck}
+use Rattle.rules.specs.Answers.{Refusal, require, Answer, accepted, refused, Outcome, outcome}
+use Rattle.rules.specs.Calls.{CellCounts, Lent, K, roomCheck, lentCheck, fitCheck, fitCall}
 use Rattle.rules.specs.Bytes.{bytesOf, valueBytes}
 use Rattle.rules.specs.LatticeFile.{LH, LR, LE, rowRecord, latticeFile, rowLength, rowStart, latticeFileLength}
-use Rattle.rules.specs.PointFile.{pointFileLength, writePointsCheck}
 use Rattle.rules.specs.Program.{refusedLine, written}
-use Rattle.rules.specs.Laws.Checks.{then-first, then-rest, then-none, answer-none, answer-value, answer-refused}
+use Rattle.rules.specs.Laws.Checks.{then-none}
+use Rattle.rules.specs.Laws.Passed.{surveyed-passes, placed-pass, FitAccepted, fit-accepted, fit-refused}
 use Rattle.rules.specs.Laws.Fit.{length-running}
-use Rattle.rules.specs.Laws.PointFile.{writer-accepts}
 use Rattle.rules.specs.Laws.Surface.{Same, control-over}
-use Rattle.codec.specs.Laid.{joined-same}
-use Rattle.respond.specs.Taken.{Taken, answered}
+use Rattle.respond.specs.Taken.{Taken, answerText, Wrote}
 
 -- what is written is the answer
-pub written-as : {x y o : List ℕ} {n : ℕ} (d : List ℕ) → x ≡ y → n ≡ length x → o ≡ over x d → (n ≡ length y) × (o ≡ over y d)
-written-as d e p q = (p ∙ ap length e, q ∙ ap (λ l. over l d) e)
+pub written-as : {x y d o : List ℕ} {n : ℕ} → x ≡ y → Wrote x d n o → Wrote y d n o
+written-as {d = d} e w = record { long = w .long ∙ ap length e; is = w .is ∙ ap (λ l. over l d) e }
 
 -- ---- sizes
 
@@ -50,69 +47,62 @@ file-reads m n l r s =
 
 -- ---- the fit
 
-module _ {a : Shape} {xs ys : List ℕ} {zs : List ℤ} (t : Taken a xs ys zs) (w : Lent) (lattice : 361 ≡ length (w .lattice)) (residual : 500 ≡ length (w .residual)) (whole : 1_583 ≡ length (w .whole)) (floats : 722 ≡ length (w .floats)) where
+module _ {a : Shape} {s : Survey} (t : Taken a s) (w : Lent) (lattice : 361 ≡ length (w .lattice)) (residual : 500 ≡ length (w .residual)) (whole : 1_583 ≡ length (w .whole)) (floats : 722 ≡ length (w .floats)) where
   K-most : K a ≤ 361
   unfolding K
   K-most = controls-most (t .across) (t .up)
 
-  lent-met : lentCheck a (length xs) w ≡ none
-  unfolding lentCheck require
+  lent-met : lentCheck a (pointCount s) w ≡ none
+  unfolding lentCheck roomCheck require
   lent-met =
+      let p = pointCount s in
       let few = t .few in
       let most = K-most in
       rw
-      (le-leb (K a) (length (w .lattice)) (omega arith), le-leb (length xs) (length (w .residual)) (omega arith), le-leb (3 * K a + length xs) (length (w .whole)) (omega arith), le-leb (2 * K a) (length (w .floats)) (omega arith))
+      (le-leb (K a) (length (w .lattice)) (omega arith), le-leb p (length (w .residual)) (omega arith), le-leb (3 * K a + p) (length (w .whole)) (omega arith), le-leb (2 * K a) (length (w .floats)) (omega arith))
       refl
 
-  fit-is : fitCheck a xs ys zs w ≡ levelsCheck a (pointsOf xs ys zs)
-  unfolding fitCheck writePointsCheck
+  fit-is : fitCheck a s w ≡ levelsCheck a s
+  unfolding fitCheck
   fit-is =
-      let room : List ℕ = replicate (pointFileLength (length xs)) 0 in
-      let e = writer-accepts a xs ys zs room .1 (t .writable, omega (arith, length-replicate {0} {A = ℕ} (pointFileLength (length xs)) 0)) in
-      let e₁ = then-rest _ _ e in
-      let e₂ = then-rest _ _ e₁ in
-      then-none _ _ (then-first _ _ e)
-      ∙ then-none _ _ (then-first _ _ e₁)
-      ∙ then-none _ _ (then-first _ _ e₂)
+      then-none _ _ (surveyed-passes a s (t .writable .surveyed))
       ∙ then-none _ _ lent-met
-      ∙ then-none _ _ (then-rest _ _ (then-rest _ _ e₂))
+      ∙ then-none _ _ (placed-pass 16 (columns a (a .h)) (rows a (a .h)) s (t .writable .placed))
 
-  -- the fit is refused by r
-  pub refusal : (r : Refusal) → refused r ≡ fitAnswer a xs ys zs w → refusedLine r ≡ answered a (pointsOf xs ys zs)
-  unfolding fitAnswer answered written
-  refusal r e = rw (← fit-is, answer-refused (fitCheck a xs ys zs w) _ r (sym e)) refl
+  module _ {told : Answer CellCounts} {left : Lent} (fitted : outcome told left ≡ fitCall a s w) where
+    answered-by : told ≡ fitCall a s w .answered
+    answered-by = ap (λ (o : Outcome CellCounts Lent). o .answered) fitted
 
-  -- the fit is accepted with m by n cells
-  module _ (m n : ℕ) (e : accepted (record { m = m; n = n }) ≡ fitAnswer a xs ys zs w) where
-    finest : Cells
-    finest = record { m = columns a (a .h); n = rows a (a .h) }
+    -- the fit is refused by r
+    pub refusal : (r : Refusal) → told ≡ refused r → refusedLine r ≡ answerText a s
+    unfolding answerText written
+    refusal r e = rw (← fit-is, fit-refused a s w r (sym answered-by ∙ e)) refl
 
-    cells : finest ≡ record { m = m; n = n }
-    unfolding fitAnswer finest
-    cells = answer-value (fitCheck a xs ys zs w) finest (record { m = m; n = n }) (sym e)
+    -- the fit is accepted with m by n cells
+    module _ (m n : ℕ) (e : told ≡ accepted (record { m = m; n = n })) where
+      fine : FitAccepted a s w (record { m = m; n = n })
+      fine = fit-accepted a s w (record { m = m; n = n }) (sym answered-by ∙ e)
 
-    across : columns a (a .h) ≡ m
-    unfolding finest
-    across = ap (λ (c : Cells). c .m) cells
+      across : columns a (a .h) ≡ m
+      across = ap (λ (c : CellCounts). c .m) (fine .counts)
 
-    up : rows a (a .h) ≡ n
-    unfolding finest
-    up = ap (λ (c : Cells). c .n) cells
+      up : rows a (a .h) ≡ n
+      up = ap (λ (c : CellCounts). c .n) (fine .counts)
 
-    pub room : (m ≤ 512) × (n ≤ 512) × (controls m n ≤ 361) × (latticeFileLength m n ≤ 2_974)
-    room =
-        let p : m ≤ 16 = rw (← across) (t .across) in
-        let q : n ≤ 16 = rw (← up) (t .up) in
-        (omega arith, omega arith, controls-most p q, file-most p q)
+      pub room : (m ≤ 512) × (n ≤ 512) × (controls m n ≤ 361) × (latticeFileLength m n ≤ 2_974)
+      room =
+          let p : m ≤ 16 = rw (← across) (t .across) in
+          let q : n ≤ 16 = rw (← up) (t .up) in
+          (omega arith, omega arith, controls-most p q, file-most p q)
 
-    answer-is : answered a (pointsOf xs ys zs) ≡ latticeFile m n (running a (pointsOf xs ys zs) (a .h))
-    unfolding fitAnswer answered written
-    answer-is = rw (← fit-is, answer-none (fitCheck a xs ys zs w) _ _ (sym e), across, up) refl
+      answer-is : answerText a s ≡ latticeFile m n (singleLattice a s)
+      unfolding answerText written
+      answer-is = rw (← fit-is, fine .unrefused, across, up) refl
 
-    pub file-is : (l : List ℤ) → l ≡ fitLeaves a xs ys zs w .lattice → latticeFile m n l ≡ answered a (pointsOf xs ys zs)
-    unfolding fitLeaves left
-    file-is l p =
-        let points = pointsOf xs ys zs in
-        ap (latticeFile m n) (p ∙ ap (λ x. left x (running a points (a .h)) (w .lattice)) (sym e))
-        ∙ file-reads m n _ _ (control-over m n (running a points (a .h)) (w .lattice) (length-running a points (a .h) ∙ ap₂ controls across up))
-        ∙ sym answer-is
+      pub file-is : latticeFile m n (left .lattice) ≡ answerText a s
+      unfolding singleLattice
+      file-is =
+          ap (λ (o : Outcome CellCounts Lent). latticeFile m n (o .slices .lattice)) fitted
+          ∙ ap (latticeFile m n) (fine .lattice-is)
+          ∙ file-reads m n _ _ (control-over m n (singleLattice a s) (w .lattice) (length-running a s (a .h) ∙ ap₂ controls across up))
+          ∙ sym answer-is

@@ -7,37 +7,35 @@ use Prim.Native.Nat.{ℕ, _*_, _%_, _^_, _≤_, _<_}
 use native.Mathlib.Omega.{arith}
 use borrow.Author.Tests.{le-leb, lt-leb}
 use lib.Dec.{leb, le→leb, eqb→eq}
-use lib.IntN.{ℤ}
 use lib.ListN.{length, take}
 use lib.Seq.{take-at}
 use Rattle.algebra.specs.Table.{tabulate, over, length-tabulate}
-use Rattle.rules.specs.Fit.{Shape, shape, columns, rows, pointsOf, levelsCheck}
-use Rattle.rules.specs.Answers.{Refusal, Check, require, _then_, short, accepted, refused, left}
-use Rattle.rules.specs.PointFile.{Header, pointStart, fileShape, filePoints, fileX, fileY, fileZ, pointFileCheck, readPointsCheck, readPointsAnswer, readPointsLeaves}
-use Rattle.rules.specs.Program.{refusedLine, pointsIn, programCheck, written, programOutput}
+use Rattle.rules.specs.Fit.{Shape, columns, rows, Survey, survey, pointCount, levelsCheck}
+use Rattle.rules.specs.Answers.{Refusal, Check, require, _then_, short, Answer, accepted, refused, outcome}
+use Rattle.rules.specs.PointFile.{Header, pointStart, fileShape, filePoints, fileX, fileY, fileZ, fileSurvey, pointFileCheck, readPointsCheck, overLists, readPointsCall}
+use Rattle.rules.specs.Program.{refusedLine, programCheck, written, programOutput}
 use Rattle.rules.specs.Laws.Bytes.{AreBytes}
-use Rattle.rules.specs.Laws.Checks.{required, require-met, within-bounds, then-rest, then-none, answer-none, answer-value, answer-refused}
-use Rattle.rules.specs.Laws.PointFile.{Writable, fileXs, fileYs, fileZs, read-writable}
-use Rattle.survey.specs.Passed.{cellsAt-shifted}
-use Rattle.respond.specs.Taken.{Taken, answered}
+use Rattle.rules.specs.Laws.Checks.{required, require-met, then-rest, then-none, call-unrefused, call-value, call-after, call-refusal}
+use Rattle.rules.specs.Laws.PointFile.{Writable, read-writable}
+use Rattle.survey.specs.Cells.{cellsAt-shifted}
+use Rattle.respond.specs.Taken.{Taken, answerText}
 
 -- at most 16 finest cells a side
 few : Shape → Bool
 few a = leb (columns a (a .h)) 16 && leb (rows a (a .h)) 16
 
-header : List ℕ → Header
-header file = record { shape = fileShape file; points = filePoints file }
+-- the first p points of three slices
+abbrev pub firstPoints : ℕ → Survey → Survey
+firstPoints p s = survey (take p (s .xs)) (take p (s .ys)) (take p (s .zs))
 
 -- a file of at most 7,008 bytes that was accepted with the header a, and its points at the start of three slices
-pub record ReadAs (file : List ℕ) (a : Header) (x y : List ℕ) (z : List ℤ) : Type 0 where
+pub record ReadAs (file : List ℕ) (a : Header) (got : Survey) : Type 0 where
   bytes : AreBytes file
   short : length file ≤ 7_008
   passed : pointFileCheck file ≡ none
   shape-is : fileShape file ≡ a .shape
   count-is : filePoints file ≡ a .points
-  x-list : take (a .points) x ≡ fileXs file
-  y-list : take (a .points) y ≡ fileYs file
-  z-list : take (a .points) z ≡ fileZs file
+  points-are : firstPoints (a .points) got ≡ fileSurvey file
 
 module _ (file : List ℕ) where
   pub too-long : 7_008 < length file → refusedLine short ≡ programOutput file
@@ -45,7 +43,7 @@ module _ (file : List ℕ) where
   too-long h = rw (lt-leb (length file) 7_008 h) refl
 
   module _ (h : length file ≤ 7_008) where
-    check-is : programCheck file ≡ (pointFileCheck file then require (few (fileShape file)) short then levelsCheck (fileShape file) (pointsIn file))
+    check-is : programCheck file ≡ (pointFileCheck file then require (few (fileShape file)) short then levelsCheck (fileShape file) (fileSurvey file))
     unfolding programCheck few
     check-is = then-none _ _ (require-met _ _ (le→leb (length file) 7_008 h))
 
@@ -56,79 +54,75 @@ module _ (file : List ℕ) where
         omega arith
 
     -- the reader with room for 500 points
-    module _ (xs ys : List ℕ) (zs : List ℤ) (long-x : 500 ≡ length xs) (long-y : 500 ≡ length ys) (long-z : 500 ≡ length zs) where
-      read-is : readPointsCheck file xs ys zs ≡ pointFileCheck file
+    module _ (lent : Survey) (long-x : 500 ≡ length (lent .xs)) (long-y : 500 ≡ length (lent .ys)) (long-z : 500 ≡ length (lent .zs)) where
+      read-is : readPointsCheck file lent ≡ pointFileCheck file
       unfolding readPointsCheck require _then_
       read-is = go (pointFileCheck file) refl
         where
           p : ℕ
           p = filePoints file
 
-          go : (c : Check) → pointFileCheck file ≡ c → (c then require (leb p (length xs) && leb p (length ys) && leb p (length zs)) short) ≡ c
+          go : (c : Check) → pointFileCheck file ≡ c
+              → (c then require (leb p (length (lent .xs)) && leb p (length (lent .ys)) && leb p (length (lent .zs))) short) ≡ c
           go none e =
               let most = points-most e in
-              rw (le-leb p (length xs) (omega arith), le-leb p (length ys) (omega arith), le-leb p (length zs) (omega arith)) refl
+              rw (le-leb p (length (lent .xs)) (omega arith), le-leb p (length (lent .ys)) (omega arith), le-leb p (length (lent .zs)) (omega arith)) refl
           go (some r) e = refl
 
-      pub refusal : (r : Refusal) → refused r ≡ readPointsAnswer file xs ys zs → refusedLine r ≡ programOutput file
-      unfolding programOutput written readPointsAnswer _then_
-      refusal r e =
-          rw (check-is, ← read-is, answer-refused (readPointsCheck file xs ys zs) _ r (sym e)) refl
+      module _ {told : Answer Header} {got : Survey} (read : outcome told got ≡ readPointsCall file lent) where
+        pub refusal : (r : Refusal) → told ≡ refused r → refusedLine r ≡ programOutput file
+        unfolding programOutput written readPointsCall _then_
+        refusal r e = rw (check-is, ← read-is, call-refusal _ _ _ lent told got read r e) refl
 
-      -- the file is accepted with the header a
-      module _ (a : Header) (e : accepted a ≡ readPointsAnswer file xs ys zs) where
-        passed : pointFileCheck file ≡ none
-        unfolding readPointsAnswer
-        passed = sym read-is ∙ answer-none (readPointsCheck file xs ys zs) _ a (sym e)
+        -- the file is accepted with the header a
+        module _ (a : Header) (e : told ≡ accepted a) where
+          passed : pointFileCheck file ≡ none
+          unfolding readPointsCall
+          passed = sym read-is ∙ call-unrefused _ _ _ lent told got read a e
 
-        header-is : header file ≡ a
-        unfolding readPointsAnswer header
-        header-is = answer-value (readPointsCheck file xs ys zs) (header file) a (sym e)
+          header-is : record { shape = fileShape file; points = filePoints file } ≡ a
+          unfolding readPointsCall
+          header-is = call-value (readPointsCheck file lent) _ _ lent told got read a e
 
-        count-is : filePoints file ≡ a .points
-        unfolding header
-        count-is = ap (λ (b : Header). b .points) header-is
+          count-is : filePoints file ≡ a .points
+          count-is = ap (λ (b : Header). b .points) header-is
 
-        -- the first places of a slice that the reader has filled
-        first : {A : Type 0} (f : ℕ → A) (d : List A) {l : List A} → l ≡ left (readPointsAnswer file xs ys zs) (tabulate (filePoints file) f) d
-            → take (a .points) l ≡ tabulate (filePoints file) f
-        unfolding left over
-        first f d p =
-            ap (take (a .points)) (p ∙ ap (λ t. left t (tabulate (filePoints file) f) d) (sym e))
-            ∙ take-at (tabulate (filePoints file) f) _ (a .points) (length-tabulate (filePoints file) f ∙ count-is)
+          -- the first places of a slice that the reader has filled
+          first : {A : Type 0} (f : ℕ → A) (d : List A) → take (a .points) (over (tabulate (filePoints file) f) d) ≡ tabulate (filePoints file) f
+          unfolding over
+          first f d = take-at (tabulate (filePoints file) f) _ (a .points) (length-tabulate (filePoints file) f ∙ count-is)
 
-        pub read-as : AreBytes file → {x y : List ℕ} {z : List ℤ}
-            → x ≡ readPointsLeaves file xs ys zs .xs
-            → y ≡ readPointsLeaves file xs ys zs .ys
-            → z ≡ readPointsLeaves file xs ys zs .zs
-            → ReadAs file a x y z
-        unfolding readPointsLeaves header
-        read-as bytes p q r = record {
-          bytes = bytes;
-          short = h;
-          passed = passed;
-          shape-is = ap (λ (b : Header). b .shape) header-is;
-          count-is = count-is;
-          x-list = first (fileX file) xs p;
-          y-list = first (fileY file) ys q;
-          z-list = first (fileZ file) zs r;
-        }
+          points-are : firstPoints (a .points) got ≡ fileSurvey file
+          unfolding readPointsCall overLists fileSurvey
+          points-are =
+              ap (firstPoints (a .points)) (call-after (readPointsCheck file lent) _ _ lent told got read a e)
+              ∙ (λ i. survey (first (fileX file) (lent .xs) i) (first (fileY file) (lent .ys) i) (first (fileZ file) (lent .zs) i))
 
-module _ {file : List ℕ} {a : Header} {x y : List ℕ} {z : List ℤ} (r : ReadAs file a x y z) where
-  bounds : Writable (fileShape file) (fileXs file) (fileYs file) (fileZs file)
+          pub read-as : AreBytes file → ReadAs file a got
+          read-as bytes = record {
+            bytes = bytes;
+            short = h;
+            passed = passed;
+            shape-is = ap (λ (b : Header). b .shape) header-is;
+            count-is = count-is;
+            points-are = points-are;
+          }
+
+module _ {file : List ℕ} {a : Header} {got : Survey} (r : ReadAs file a got) where
+  bounds : Writable (fileShape file) (fileSurvey file)
   bounds = read-writable file (r .passed) (r .bytes)
 
   pub points-fit : a .points ≤ 500
   points-fit = omega (arith, r .count-is, points-most file (r .short) (r .passed))
 
   across-most : a .shape .m0 ≤ 16
-  across-most = rw (← r .shape-is) (within-bounds 1 16 (fileShape file .m0) (bounds .across) .1)
+  across-most = rw (← r .shape-is) (bounds .surveyed .sides .1)
 
   up-most : a .shape .n0 ≤ 16
-  up-most = rw (← r .shape-is) (within-bounds 1 16 (fileShape file .n0) (bounds .up) .1)
+  up-most = rw (← r .shape-is) (bounds .surveyed .sides .3)
 
   pub levels-most : a .shape .h ≤ 5
-  levels-most = rw (← r .shape-is) (bounds .levels)
+  levels-most = rw (← r .shape-is) (bounds .surveyed .levels-most)
 
   columns-is : (a .shape .m0 * 2 ^ a .shape .h) % 2 ^ 64 ≡ columns (a .shape) (a .shape .h)
   unfolding columns
@@ -157,17 +151,17 @@ module _ {file : List ℕ} {a : Header} {x y : List ℕ} {z : List ℤ} (r : Rea
 
     -- a survey that is taken
     module _ (low : (a .shape .n0 * 2 ^ a .shape .h) % 2 ^ 64 ≤ 16) where
-      pub answer-is : answered (a .shape) (pointsOf (take (a .points) x) (take (a .points) y) (take (a .points) z)) ≡ programOutput file
-      unfolding programOutput answered pointsIn written require few _then_
+      pub answer-is : answerText (a .shape) (firstPoints (a .points) got) ≡ programOutput file
+      unfolding programOutput answerText written require few _then_
       answer-is =
-          rw
-          (check-is file (r .short), r .passed, r .shape-is, narrow-is, le-leb (rows (a .shape) (a .shape .h)) 16 (rw rows-is at low), r .x-list, r .y-list, r .z-list)
+          rw (r .points-are, check-is file (r .short), r .passed, r .shape-is, narrow-is, le-leb (rows (a .shape) (a .shape .h)) 16 (rw rows-is at low))
           refl
 
-      pub taken : Taken (a .shape) (take (a .points) x) (take (a .points) y) (take (a .points) z)
+      pub taken : Taken (a .shape) (firstPoints (a .points) got)
+      unfolding fileSurvey
       taken = record {
-        writable = rw (← r .shape-is, r .x-list, r .y-list, r .z-list) bounds;
+        writable = rw (← r .shape-is, r .points-are) bounds;
         across = rw columns-is at narrow;
         up = rw rows-is at low;
-        few = rw (r .x-list, length-tabulate (filePoints file) (fileX file)) (points-most file (r .short) (r .passed));
+        few = omega (arith, ap (λ (s : Survey). pointCount s) (r .points-are), length-tabulate (filePoints file) (fileX file), points-most file (r .short) (r .passed));
       }

@@ -1,18 +1,23 @@
 -- What the program fits, a survey in bounds that its arrays can hold, and what it then writes.
 use Prim.Native.Nat.{ℕ, _≤_}
+use mathlib.Core.Path.{_≡_}
 use mathlib.Core.List.{List}
-use lib.IntN.{ℤ}
 use lib.ListN.{length}
-use Rattle.rules.specs.Level.{Point}
-use Rattle.rules.specs.Fit.{Shape, columns, rows, levelsCheck}
+use Rattle.algebra.specs.Table.{over}
+use Rattle.rules.specs.Fit.{Shape, columns, rows, Survey, pointCount, levelsCheck}
 use Rattle.rules.specs.Program.{written}
 use Rattle.rules.specs.Laws.PointFile.{Writable}
 
-pub record Taken (a : Shape) (xs ys : List ℕ) (zs : List ℤ) : Type 0 where
-  pub writable : Writable a xs ys zs
+pub record Taken (a : Shape) (s : Survey) : Type 0 where
+  pub writable : Writable a s
   pub across : columns a (a .h) ≤ 16
   pub up : rows a (a .h) ≤ 16
-  pub few : length xs ≤ 500
+  pub few : pointCount s ≤ 500
 
-unfoldable pub answered : Shape → List Point → List ℕ
-answered a points = written (levelsCheck a points) a points
+unfoldable pub answerText : Shape → Survey → List ℕ
+answerText a s = written (levelsCheck a s) a s
+
+-- the text stands at the start of the output, as long as was answerText; what lies past it is as before
+pub record Wrote (text before : List ℕ) (answer : ℕ) (after : List ℕ) : Type 0 where
+  pub long : answer ≡ length text
+  pub is : after ≡ over text before

@@ -1,14 +1,14 @@
 // The program's answer to the bytes of its standard input: the lattice file, or one line "refused N P".
 ghost use mathlib.Core.Path.{_≡_};
 ghost use Prim.Native.Nat.{_+_, _≤_};
-ghost use lib.ListN.{length, take};
-ghost use Rattle.algebra.specs.Table.{over, laid};
-ghost use Rattle.rules.specs.Fit.{shape, pointsOf};
+ghost use lib.ListN.{length, replicate};
+ghost use Rattle.algebra.specs.Table.{laid};
+ghost use Rattle.rules.specs.Fit.{shape, survey};
 ghost use Rattle.rules.specs.Program.{decimal, refusedLine, programOutput};
 ghost use Rattle.answers.specs.Cause.{cause};
-ghost use Rattle.respond.specs.Taken.{Taken, answered};
+ghost use Rattle.respond.specs.Taken.{Taken, answerText, Wrote};
 use answers::Refusal;
-use fit::Fitted;
+use fit::LatticeFitted;
 use point_file::PointsRead;
 
 // "at most 7,008 bytes": a head and 500 points. "16 finest cells a side": 361 control values, and a file of 2,974 bytes.
@@ -34,8 +34,7 @@ fn put_decimal(output: &mut [u8], at: usize, v: usize) -> usize
 // "refused N P" and a newline, at the start of output; answers its length. Each number has at most 20 digits.
 fn put_refused(r: Refusal, output: &mut [u8]) -> usize
     requires { ⌜ 50 ≤ length (now output) ⌝ }
-    ensures { λ n. ⌜ n ≡ length (refusedLine (cause r)) ⌝ }
-    ensures { λ _. ⌜ now (output .exit) ≡ over (refusedLine (cause r)) (now (output .entry)) ⌝ }
+    ensures { λ n. ⌜ Wrote (refusedLine (cause r)) (now (output .entry)) n (now (output .exit)) ⌝ }
 {
     output[0] = b'r';
     output[1] = b'e';
@@ -62,9 +61,8 @@ fn fit_and_write(
     zs: &[i64],
     output: &mut [u8],
 ) -> usize
-    requires { ⌜ Taken (shape m0 n0 h) (now xs) (now ys) (now zs) × (2_974 ≤ length (now output)) ⌝ }
-    ensures { λ r. ⌜ r ≡ length (answered (shape m0 n0 h) (pointsOf (now (xs .entry)) (now (ys .entry)) (now (zs .entry)))) ⌝ }
-    ensures { λ _. ⌜ now (output .exit) ≡ over (answered (shape m0 n0 h) (pointsOf (now (xs .entry)) (now (ys .entry)) (now (zs .entry)))) (now (output .entry)) ⌝ }
+    requires { ⌜ Taken (shape m0 n0 h) (survey (now xs) (now ys) (now zs)) × (2_974 ≤ length (now output)) ⌝ }
+    ensures { λ r. ⌜ Wrote (answerText (shape m0 n0 h) (survey (now (xs .entry)) (now (ys .entry)) (now (zs .entry)))) (now (output .entry)) r (now (output .exit)) ⌝ }
 {
     let mut lattice = [0i64; 361];
     let mut residual = [0i64; 500];
@@ -82,16 +80,15 @@ fn fit_and_write(
         &mut whole,
         &mut floats,
     ) {
-        Fitted::Cells(m, n) => lattice_file::put_lattice(m, n, &lattice, output),
-        Fitted::Refused(r) => put_refused(r, output),
+        LatticeFitted::Cells(m, n) => lattice_file::put_lattice(m, n, &lattice, output),
+        LatticeFitted::Refused(r) => put_refused(r, output),
     }
 }
 
 // The whole answer at the start of output; answers its length.
 fn write(input: &[u8], output: &mut [u8]) -> usize
     requires { ⌜ 2_974 ≤ length (now output) ⌝ }
-    ensures { λ r. ⌜ r ≡ length (programOutput (now (input .entry))) ⌝ }
-    ensures { λ _. ⌜ now (output .exit) ≡ over (programOutput (now (input .entry))) (now (output .entry)) ⌝ }
+    ensures { λ r. ⌜ Wrote (programOutput (now (input .entry))) (now (output .entry)) r (now (output .exit)) ⌝ }
 {
     if MOST_BYTES < input.len() {
         return put_refused(Refusal::Short, output);
@@ -117,7 +114,7 @@ fn write(input: &[u8], output: &mut [u8]) -> usize
     }
 }
 
-// What the program writes: the first len bytes.
+// What the program writes: the first len bytes. The others are 0.
 pub struct Response {
     pub len: usize,
     pub bytes: [u8; 2974],
@@ -126,7 +123,7 @@ pub struct Response {
 // The answer to the bytes of the program's standard input.
 pub fn respond(input: &[u8]) -> Response
     ensures { λ r. ⌜ (2_974 ≡ length (r .bytes)) × (r .len ≤ 2_974) ⌝ }
-    ensures { λ r. ⌜ take (r .len) (r .bytes) ≡ programOutput (now (input .entry)) ⌝ }
+    ensures { λ r. ⌜ Wrote (programOutput (now (input .entry))) (replicate 2_974 0) (r .len) (r .bytes) ⌝ }
 {
     let mut bytes = [0u8; 2974];
     let len = write(input, &mut bytes);

@@ -5,7 +5,6 @@ use mathlib.Core.Option.{Option, none, some}
 use mathlib.Core.List.{List}
 use lib.IntN.{ℤ, pos}
 use lib.ListN.{getD}
-use Rattle.algebra.specs.Table.{over}
 use Rattle.rules.specs.Grid.{inRange}
 
 -- The causes of the table, in its order. One that has a place holds it.
@@ -128,7 +127,17 @@ unfoldable pub answer : {A : Type 0} → Check → A → Answer A
 answer none a = accepted a
 answer (some r) a = refused r
 
--- "in lent slices only the result's own prefix changes"; a refusal leaves the slice d as it was
-unfoldable pub left : {A B : Type 0} → Answer A → List B → List B → List B
-left (accepted a) result d = over result d
-left (refused r) result d = d
+-- ---- calls on lent slices
+
+-- what a call answers, and what the slices lent to it hold afterwards
+pub record Outcome (A B : Type 0) : Type 0 where
+  pub answered : Answer A
+  pub slices : B
+
+abbrev pub outcome : {A B : Type 0} → Answer A → B → Outcome A B
+outcome answered slices = record { answered = answered; slices = slices }
+
+-- what its check leaves of a call: accepted, it returns v and the slices hold `after`; "Left as it was": a refusal leaves them as lent
+unfoldable pub call : {A B : Type 0} → Check → A → B → B → Outcome A B
+call none v after lent = outcome (accepted v) after
+call (some r) v after lent = outcome (refused r) lent

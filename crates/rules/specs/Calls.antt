@@ -1,25 +1,26 @@
--- The calls of document 01 on lent slices: each one's checks in their order, its answer, and what each slice holds afterwards. Definitions only.
+-- The calls of document 01 on lent slices: each one's checks in their order, and then its answer and what its slices hold afterwards. Definitions only.
 -- Files have theirs in LatticeFile and PointFile, the program in Program.
-use Prim.Native.Nat.{ℕ, zero, suc, _+_, _-_, _*_, _/_, _%_}
-use mathlib.Core.Bool.{Bool, true, false, _&&_, _||_, cond}
-use mathlib.Core.List.{List, [], _∷_, map}
+use Prim.Native.Nat.{ℕ, zero, suc, _+_, _*_, _/_, _%_}
+use mathlib.Core.Bool.{_&&_, _||_, cond}
+use mathlib.Core.Option.{none, some}
+use mathlib.Core.List.{List}
 use lib.Dec.{leb, eqb}
 use lib.IntN.{ℤ, pos}
 use lib.Ieee.{Float}
-use lib.ListN.{length, getD, replicate}
+use lib.ListN.{length, replicate}
 use Rattle.algebra.specs.Table.{tabulate, over}
 use Rattle.rules.specs.Grid.{within, inRange, inside, controls, control, store}
 use Rattle.rules.specs.Surface.{height}
 use Rattle.rules.specs.Level.{Point, zero64}
 use Rattle.rules.specs.Refinement.{refined}
-use Rattle.rules.specs.Fit.{Shape, columns, rows, unitOf, pointsOf, residuals, running, levelsCheck}
-use Rattle.rules.specs.Answers.{Refusal, cells, levels, unit, lists, short, position, range, size, inLevels}
-use Rattle.rules.specs.Answers.{Check, require, _then_, firstOf, rangeCheck, Answer, accepted, refused, answer, left}
+use Rattle.rules.specs.Fit.{Shape, columns, rows, Survey, pointCount, pointAt, singleLattice, lastResiduals, levelsCheck}
+use Rattle.rules.specs.Answers.{cells, levels, unit, lists, short, position, range, size, inLevels}
+use Rattle.rules.specs.Answers.{Check, require, _then_, firstOf, rangeCheck, Answer, accepted, refused, answer, Outcome, outcome, call}
 
 -- ---- checks that several calls share
 
 -- cell counts that a call returns
-pub record Cells : Type 0 where
+pub record CellCounts : Type 0 where
   pub m : ℕ
   pub n : ℕ
 
@@ -32,21 +33,28 @@ unfoldable pub unitCheck : ℕ → Check
 unitCheck U = require (eqb U 16 || eqb U 32 || eqb U 64 || eqb U 128 || eqb U 256 || eqb U 512) unit
 
 -- 2: "h above 5"
-unfoldable pub levelsCountCheck : ℕ → Check
-levelsCountCheck h = require (leb h 5) levels
+unfoldable pub hCheck : ℕ → Check
+hCheck h = require (leb h 5) levels
 
 -- 3: "x, y, z lists differ in length, or over 65,535 points"
-unfoldable pub listsCheck : List ℕ → List ℕ → List ℤ → Check
-listsCheck xs ys zs = require (eqb (length xs) (length ys) && eqb (length xs) (length zs) && leb (length xs) 65_535) lists
+unfoldable pub listsCheck : Survey → Check
+listsCheck s = let p = pointCount s in require (eqb p (length (s .ys)) && eqb p (length (s .zs)) && leb p 65_535) lists
 
 -- 6, over a lattice: the first control value out of range
 unfoldable pub latticeCheck : ℕ → ℕ → List ℤ → Check
 latticeCheck m n lattice = rangeCheck (controls m n) lattice range
 
--- "Points go in list order, 5 before 6 in a point". Positions are those of m by n cells of U.
-unfoldable pub pointsCheck : ℕ → ℕ → ℕ → List ℕ → List ℕ → List ℤ → Check
-pointsCheck U m n xs ys zs =
-    firstOf (length xs) (λ i. require (inside U m (getD xs i 0) && inside U n (getD ys i 0)) (position i) then require (inRange (getD zs i (pos 0))) (range i))
+-- "5 before 6 in a point": point i, on m by n cells of U positions
+unfoldable pub pointCheck : ℕ → ℕ → ℕ → ℕ → Point → Check
+pointCheck U m n i p = require (inside U m (p .x) && inside U n (p .y)) (position i) then require (inRange (p .z)) (range i)
+
+-- "Points go in list order"
+unfoldable pub pointsCheck : ℕ → ℕ → ℕ → Survey → Check
+pointsCheck U m n s = firstOf (pointCount s) (λ i. pointCheck U m n i (pointAt s i))
+
+-- 1, 2 and 3, of the fit and of the point writer
+unfoldable pub surveyCheck : Shape → Survey → Check
+surveyCheck a s = cellsCheck 16 (a .m0) (a .n0) then hCheck (a .h) then listsCheck s
 
 -- ---- height
 
@@ -69,11 +77,9 @@ refineCheck m n lattice output =
     then require (leb (controls m n) (length lattice) && leb (controls (2 * m) (2 * n)) (length output)) short
     then latticeCheck m n lattice
 
-unfoldable pub refineAnswer : ℕ → ℕ → List ℤ → List ℤ → Answer Cells
-refineAnswer m n lattice output = answer (refineCheck m n lattice output) (record { m = 2 * m; n = 2 * n })
-
-unfoldable pub refineLeaves : ℕ → ℕ → List ℤ → List ℤ → List ℤ
-refineLeaves m n lattice output = left (refineAnswer m n lattice output) (store (2 * m) (2 * n) (refined (control m lattice))) output
+unfoldable pub refineCall : ℕ → ℕ → List ℤ → List ℤ → Outcome CellCounts (List ℤ)
+refineCall m n lattice output =
+    call (refineCheck m n lattice output) (record { m = 2 * m; n = 2 * n }) (over (store (2 * m) (2 * n) (refined (control m lattice))) output) output
 
 -- ---- raster
 
@@ -103,22 +109,31 @@ nodeX g q = g .x0 + stepOf (g .step) * (q % g .across)
 unfoldable pub nodeY : Nodes → ℕ → ℕ
 nodeY g q = g .y0 + stepOf (g .step) * (q / g .across)
 
+-- 8: "step above 8,192, or columns or rows above 8,193"
+unfoldable pub sizeCheck : ℕ → ℕ → ℕ → Check
+sizeCheck step across down = require (leb step 8_192 && leb across 8_193 && leb down 8_193) size
+
+-- 5: node q, and the first node, that is past the last position along x or along y
+unfoldable pub nodeCheck : ℕ → ℕ → Nodes → ℕ → Check
+nodeCheck right top g q = require (leb (nodeX g q) right && leb (nodeY g q) top) (position q)
+
+unfoldable pub nodesCheck : ℕ → ℕ → Nodes → Check
+nodesCheck right top g = firstOf (g .across * g .down) (nodeCheck right top g)
+
 unfoldable pub rasterCheck : ℕ → ℕ → ℕ → List ℤ → Nodes → List ℤ → Check
 rasterCheck m n U lattice g output =
     cellsCheck 512 m n
     then unitCheck U
-    then require (leb (g .step) 8_192 && leb (g .across) 8_193 && leb (g .down) 8_193) size
+    then sizeCheck (g .step) (g .across) (g .down)
     then require (leb (controls m n) (length lattice) && leb (g .across * g .down) (length output)) short
     then latticeCheck m n lattice
-    then firstOf (g .across * g .down) (λ q. require (inside U m (nodeX g q) && inside U n (nodeY g q)) (position q))
+    then nodesCheck (U * m) (U * n) g
 
-unfoldable pub rasterAnswer : ℕ → ℕ → ℕ → List ℤ → Nodes → List ℤ → Answer ℕ
-rasterAnswer m n U lattice g output = answer (rasterCheck m n U lattice g output) (g .across * g .down)
-
-unfoldable pub rasterLeaves : ℕ → ℕ → ℕ → List ℤ → Nodes → List ℤ → List ℤ
-rasterLeaves m n U lattice g output =
-    left (rasterAnswer m n U lattice g output)
-    (tabulate (g .across * g .down) (λ q. height U m n (control m lattice) (nodeX g q) (nodeY g q))) output
+-- "A raster writes the heights of columns × rows nodes"
+unfoldable pub rasterCall : ℕ → ℕ → ℕ → List ℤ → Nodes → List ℤ → Outcome ℕ (List ℤ)
+rasterCall m n U lattice g output =
+    let count = g .across * g .down in
+    call (rasterCheck m n U lattice g output) count (over (tabulate count (λ q. height U m n (control m lattice) (nodeX g q) (nodeY g q))) output) output
 
 -- ---- fit
 
@@ -136,42 +151,42 @@ lent lattice residual whole floats = record { lattice = lattice; residual = resi
 unfoldable pub K : Shape → ℕ
 K a = controls (columns a (a .h)) (rows a (a .h))
 
--- "For p points the caller lends at least: lattice K, residuals p, whole scratch 3K+p, f64 scratch 2K"
-unfoldable pub lentCheck : Shape → ℕ → Lent → Check
-lentCheck a p lent =
-    require
-    (leb (K a) (length (lent .lattice))
-    && leb p (length (lent .residual))
-    && leb (3 * K a + p) (length (lent .whole))
-    && leb (2 * K a) (length (lent .floats)))
-    short
+-- "For p points the caller lends at least: lattice K, residuals p, whole scratch 3K+p, f64 scratch 2K": slices of these lengths
+unfoldable pub roomCheck : ℕ → ℕ → ℕ → ℕ → ℕ → ℕ → Check
+roomCheck K p lattice residual whole floats = require (leb K lattice && leb p residual && leb (3 * K + p) whole && leb (2 * K) floats) short
 
-unfoldable pub fitCheck : Shape → List ℕ → List ℕ → List ℤ → Lent → Check
-fitCheck a xs ys zs lent =
-    cellsCheck 16 (a .m0) (a .n0)
-    then levelsCountCheck (a .h)
-    then listsCheck xs ys zs
-    then lentCheck a (length xs) lent
-    then pointsCheck 16 (columns a (a .h)) (rows a (a .h)) xs ys zs
-    then levelsCheck a (pointsOf xs ys zs)
+unfoldable pub lentCheck : Shape → ℕ → Lent → Check
+lentCheck a p lent = roomCheck (K a) p (length (lent .lattice)) (length (lent .residual)) (length (lent .whole)) (length (lent .floats))
+
+unfoldable pub fitCheck : Shape → Survey → Lent → Check
+fitCheck a s lent =
+    surveyCheck a s
+    then lentCheck a (pointCount s) lent
+    then pointsCheck 16 (columns a (a .h)) (rows a (a .h)) s
+    then levelsCheck a s
 
 -- "An accepted fit returns the cell counts of level h"
-unfoldable pub fitAnswer : Shape → List ℕ → List ℕ → List ℤ → Lent → Answer Cells
-fitAnswer a xs ys zs lent = answer (fitCheck a xs ys zs lent) (record { m = columns a (a .h); n = rows a (a .h) })
+abbrev pub finest : Shape → CellCounts
+finest a = record { m = columns a (a .h); n = rows a (a .h) }
+
+-- "On acceptance lattice and residuals hold the result in their first K and p places"
+unfoldable pub results : Shape → Survey → Lent → Lent
+results a s lent =
+    record { lattice = over (singleLattice a s) (lent .lattice); residual = over (lastResiduals a s) (lent .residual); whole = lent .whole; floats = lent .floats }
+
+-- "the named scratch prefixes are zero (+0 in f64). Places past these prefixes never change"
+unfoldable pub cleared : Shape → ℕ → Lent → Lent
+cleared a p lent = record {
+  lattice = lent .lattice;
+  residual = lent .residual;
+  whole = over (replicate (3 * K a + p) (pos 0)) (lent .whole);
+  floats = over (replicate (2 * K a) zero64) (lent .floats);
+}
 
 -- "After acceptance or refusal 7 the named scratch prefixes are zero"
-unfoldable pub cleared : {A B : Type 0} → Answer A → ℕ → B → List B → List B
-cleared (accepted v) n zeros d = over (replicate n zeros) d
-cleared (refused r) n zeros d = cond (inLevels r) (over (replicate n zeros) d) d
+unfoldable pub fitEnd : Shape → Survey → Lent → Check → Outcome CellCounts Lent
+fitEnd a s lent none = outcome (accepted (finest a)) (cleared a (pointCount s) (results a s lent))
+fitEnd a s lent (some r) = outcome (refused r) (cond (inLevels r) (cleared a (pointCount s) lent) lent)
 
--- "On acceptance lattice and residuals hold the result in their first K and p places. .. Places past these prefixes never change"
-unfoldable pub fitLeaves : Shape → List ℕ → List ℕ → List ℤ → Lent → Lent
-fitLeaves a xs ys zs lent =
-    let told = fitAnswer a xs ys zs lent in
-    let points = pointsOf xs ys zs in
-    record {
-      lattice = left told (running a points (a .h)) (lent .lattice);
-      residual = left told (map (λ p. p .z) (residuals a points (a .h + 1))) (lent .residual);
-      whole = cleared told (3 * K a + length xs) (pos 0) (lent .whole);
-      floats = cleared told (2 * K a) zero64 (lent .floats);
-    }
+unfoldable pub fitCall : Shape → Survey → Lent → Outcome CellCounts Lent
+fitCall a s lent = fitEnd a s lent (fitCheck a s lent)

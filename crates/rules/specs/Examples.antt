@@ -1,12 +1,12 @@
 -- "Table of checked examples" of document 01: E1 to E8 and the three near examples, as one computed table.
-use Prim.Native.Nat.{ℕ, zero, suc, _+_, _-_, _*_, _/_, _%_}
+use Prim.Native.Nat.{ℕ, zero, suc, _+_, _/_, _%_}
 use mathlib.Core.Bool.{Bool, true, false, _&&_, cond}
 use mathlib.Core.List.{List, [], _∷_}
 use lib.Dec.{T, eqb}
-use lib.IntN.{ℤ, pos, negsuc, negℤ, _-ℤ_}
+use lib.IntN.{ℤ, pos, negsuc, negℤ}
 use Rattle.rules.specs.Rounding.{floor, near}
 use Rattle.rules.specs.Grid.{Lattice}
-use Rattle.rules.specs.Surface.{square, cube, numerator, denominator, cell, offset, along, height}
+use Rattle.rules.specs.Surface.{square, cube, numerator, denominator, cell, offset, weighted, along, height}
 use Rattle.rules.specs.Refinement.{masked, finer, finer2, refined}
 
 -- "one control value set, others 0": v in column s and row t, which are the indices (s - 1, t - 1)
@@ -73,5 +73,5 @@ table =
 
 -- the whole table, computed
 pub examples : T (allHold table)
-unfolding table allHold _is_ equal single heightOf refinedAt nonzero floor near square cube numerator denominator cell offset along height masked finer finer2 refined
+unfolding table allHold _is_ equal single heightOf refinedAt nonzero floor near square cube numerator denominator cell offset weighted along height masked finer finer2 refined
 examples = tt

@@ -1,11 +1,12 @@
--- "The whole fit" of document 01: level lattices, residuals, the running lattice, and D, T and V of demand 3. Definitions only.
+-- "The whole fit" of document 01: a survey, its level lattices and residuals, the single lattice, and D, T and V of demand 3. Definitions only.
 use Prim.Native.Nat.{ℕ, zero, suc, _+_, _*_, _/_, _%_, _^_}
 use mathlib.Core.Bool.{Bool, true, false}
 use mathlib.Core.Option.{Option, none, some}
-use mathlib.Core.List.{List, [], _∷_, map}
+use mathlib.Core.List.{List}
 use lib.IntN.{ℤ, pos, _+ℤ_, _-ℤ_, _*ℤ_}
 use lib.ListN.{length, getD}
-use Rattle.rules.specs.Grid.{Lattice, cellsAt, unitAt, controls, control, store}
+use Rattle.algebra.specs.Table.{tabulate}
+use Rattle.rules.specs.Grid.{cellsAt, unitAt, controls, control, store}
 use Rattle.rules.specs.Surface.{surface, height}
 use Rattle.rules.specs.Level.{Point, fittedAt}
 use Rattle.rules.specs.Refinement.{refined}
@@ -30,52 +31,81 @@ rows a k = cellsAt (a .n0) k
 unfoldable pub unitOf : Shape → ℕ → ℕ
 unitOf a k = unitAt (a .h) k
 
--- the points of three lists of one length
-unfoldable pub pointsOf : List ℕ → List ℕ → List ℤ → List Point
-pointsOf [] ys zs = []
-pointsOf (x ∷ xs) [] zs = []
-pointsOf (x ∷ xs) (y ∷ ys) [] = []
-pointsOf (x ∷ xs) (y ∷ ys) (z ∷ zs) = record { x = x; y = y; z = z } ∷ pointsOf xs ys zs
+-- ---- a survey
 
--- ---- level k of a fit, from the points with their residuals before it
+-- "x, y, z lists": a point's x, y and z stand at one place of the three. The lists that a reader is lent have this form too, of any lengths.
+pub record Survey : Type 0 where
+  pub xs : List ℕ
+  pub ys : List ℕ
+  pub zs : List ℤ
 
--- the control value of the level lattice in column s and row t, none where it is refused
-unfoldable pub valueAt : Shape → ℕ → List Point → ℕ → ℕ → Option ℤ
-valueAt a k = fittedAt (unitOf a k) (columns a k) (rows a k)
+abbrev pub survey : List ℕ → List ℕ → List ℤ → Survey
+survey xs ys zs = record { xs = xs; ys = ys; zs = zs }
+
+-- p, the common length of the lists
+abbrev pub pointCount : Survey → ℕ
+pointCount s = length (s .xs)
+
+abbrev pub pointAt : Survey → ℕ → Point
+pointAt s i = record { x = getD (s .xs) i 0; y = getD (s .ys) i 0; z = getD (s .zs) i (pos 0) }
+
+unfoldable pub pointsOf : Survey → List Point
+pointsOf s = tabulate (pointCount s) (pointAt s)
+
+-- the same points with other values
+abbrev pub valued : Survey → List ℤ → Survey
+valued s values = record { xs = s .xs; ys = s .ys; zs = values }
+
+-- ---- level k of a fit, to a survey whose values are the residuals before it
+
+-- the control value of the level lattice in column i and row j, none where it is refused
+unfoldable pub levelValue : Shape → ℕ → Survey → ℕ → ℕ → Option ℤ
+levelValue a k s = fittedAt (unitOf a k) (columns a k) (rows a k) (pointsOf s)
 
 unfoldable pub orZero : Option ℤ → ℤ
 orZero none = pos 0
 orZero (some z) = z
 
 -- "fit level lattice k to the residuals". Where a value is refused the fit is, and nobody is given what stands for that value here.
-unfoldable pub levelOf : Shape → ℕ → List Point → List ℤ
-levelOf a k points = store (columns a k) (rows a k) (λ s t. orZero (valueAt a k points s t))
+unfoldable pub levelOf : Shape → ℕ → Survey → List ℤ
+levelOf a k s = store (columns a k) (rows a k) (λ i j. orZero (levelValue a k s i j))
+
+-- the height of level lattice k at a point
+unfoldable pub levelHeight : Shape → ℕ → List ℤ → Point → ℤ
+levelHeight a k lattice p = height (unitOf a k) (columns a k) (rows a k) (control (columns a k) lattice) (p .x) (p .y)
 
 -- "take from each residual the height of level lattice k there"
-unfoldable pub lowered : Shape → ℕ → List ℤ → Point → Point
-lowered a k lattice p =
-    record { x = p .x; y = p .y; z = p .z -ℤ height (unitOf a k) (columns a k) (rows a k) (control (columns a k) lattice) (p .x) (p .y) }
+unfoldable pub lowered : Shape → ℕ → List ℤ → Survey → List ℤ
+lowered a k lattice s = tabulate (pointCount s) (λ i. pointAt s i .z -ℤ levelHeight a k lattice (pointAt s i))
 
 -- "refine the running lattice .. and add level lattice k to it": from the running lattice of level k to that of level k + 1
 unfoldable pub raised : Shape → ℕ → List ℤ → List ℤ → List ℤ
 raised a k lattice added =
-    store (columns a (suc k)) (rows a (suc k)) (λ s t. refined (control (columns a k) lattice) s t +ℤ control (columns a (suc k)) added s t)
+    store (columns a (suc k)) (rows a (suc k)) (λ i j. refined (control (columns a k) lattice) i j +ℤ control (columns a (suc k)) added i j)
 
 -- ---- all levels
 
--- the points with their residuals before level k. "Residuals start as z"
-unfoldable pub residuals : Shape → List Point → ℕ → List Point
-residuals a points zero = points
-residuals a points (suc k) = let before = residuals a points k in map (lowered a k (levelOf a k before)) before
+-- the residuals before level k. "Residuals start as z"
+unfoldable pub residuals : Shape → Survey → ℕ → List ℤ
+residuals a s zero = s .zs
+residuals a s (suc k) = let before = valued s (residuals a s k) in lowered a k (levelOf a k before) before
 
 -- level lattice k. "The level lattices are those that these rules give for the point list, m0, n0 and h"
-unfoldable pub level : Shape → List Point → ℕ → List ℤ
-level a points k = levelOf a k (residuals a points k)
+unfoldable pub level : Shape → Survey → ℕ → List ℤ
+level a s k = levelOf a k (valued s (residuals a s k))
 
--- the running lattice after level k, "none at k = 0" before. "The running lattice after level h is the single lattice"
-unfoldable pub running : Shape → List Point → ℕ → List ℤ
-running a points zero = level a points zero
-running a points (suc k) = raised a k (running a points k) (level a points (suc k))
+-- the running lattice after level k, "none at k = 0" before
+unfoldable pub running : Shape → Survey → ℕ → List ℤ
+running a s zero = level a s zero
+running a s (suc k) = raised a k (running a s k) (level a s (suc k))
+
+-- "The running lattice after level h is the single lattice"
+unfoldable pub singleLattice : Shape → Survey → List ℤ
+singleLattice a s = running a s (a .h)
+
+-- what the levels leave of each z
+unfoldable pub lastResiduals : Shape → Survey → List ℤ
+lastResiduals a s = residuals a s (a .h + 1)
 
 -- ---- "a quotient, then a residual, then a sum out of range in a level"
 
@@ -83,23 +113,23 @@ unfoldable pub present : Option ℤ → Bool
 present none = false
 present (some z) = true
 
-unfoldable pub quotientCheck : Shape → List Point → ℕ → Check
-quotientCheck a points k =
+unfoldable pub quotientCheck : Shape → Survey → ℕ → Check
+quotientCheck a s k =
     let w = columns a k + 3 in
-    firstOf (controls (columns a k) (rows a k)) (λ q. require (present (valueAt a k (residuals a points k) (q % w) (q / w))) (quotient k))
+    firstOf (controls (columns a k) (rows a k)) (λ q. require (present (levelValue a k (valued s (residuals a s k)) (q % w) (q / w))) (quotient k))
 
-unfoldable pub residualCheck : Shape → List Point → ℕ → Check
-residualCheck a points k = rangeCheck (length points) (map (λ p. p .z) (residuals a points (suc k))) (λ i. residual k)
+unfoldable pub residualCheck : Shape → Survey → ℕ → Check
+residualCheck a s k = rangeCheck (pointCount s) (residuals a s (suc k)) (λ i. residual k)
 
-unfoldable pub sumCheck : Shape → List Point → ℕ → Check
-sumCheck a points k = rangeCheck (controls (columns a k) (rows a k)) (running a points k) (λ i. sum k)
+unfoldable pub sumCheck : Shape → Survey → ℕ → Check
+sumCheck a s k = rangeCheck (controls (columns a k) (rows a k)) (running a s k) (λ q. sum k)
 
-unfoldable pub levelCheck : Shape → List Point → ℕ → Check
-levelCheck a points k = quotientCheck a points k then residualCheck a points k then sumCheck a points k
+unfoldable pub levelCheck : Shape → Survey → ℕ → Check
+levelCheck a s k = quotientCheck a s k then residualCheck a s k then sumCheck a s k
 
 -- levels 0 to h
-unfoldable pub levelsCheck : Shape → List Point → Check
-levelsCheck a points = firstOf (a .h + 1) (levelCheck a points)
+unfoldable pub levelsCheck : Shape → Survey → Check
+levelsCheck a s = firstOf (a .h + 1) (levelCheck a s)
 
 -- ---- D, T and V of demand 3, "in whole numbers"
 
@@ -113,12 +143,12 @@ sumTo zero f = f zero
 sumTo (suc k) f = sumTo k f +ℤ f (suc k)
 
 -- ""Level surface" in demand 3 is the exact surface of level lattice k, with the U of level k". Times D: the double sum is over 36U⁶, and D is 64^k times that.
-unfoldable pub levelSurface : Shape → List Point → ℕ → ℕ → ℕ → ℤ
-levelSurface a points x y k = pos (64 ^ k) *ℤ surface (unitOf a k) (columns a k) (rows a k) (control (columns a k) (level a points k)) x y
+unfoldable pub levelSurface : Shape → Survey → ℕ → ℕ → ℕ → ℤ
+levelSurface a s x y k = pos (64 ^ k) *ℤ surface (unitOf a k) (columns a k) (rows a k) (control (columns a k) (level a s k)) x y
 
 -- "At a position let T be the exact sum of the level surfaces times D"
-unfoldable pub theT : Shape → List Point → ℕ → ℕ → ℤ
-theT a points x y = sumTo (a .h) (levelSurface a points x y)
+unfoldable pub theT : Shape → Survey → ℕ → ℕ → ℤ
+theT a s x y = sumTo (a .h) (levelSurface a s x y)
 
 -- "V the exact surface of the lattice that the fit leaves, times D". "The lattice that the fit leaves is read with U = 16 and the cell counts that the
 -- fit returned": m and n. D is 64^h times 36 × 16⁶.

@@ -1,15 +1,15 @@
 -- The lattice file of document 01: the file of a lattice, the reader and the writer. Definitions only.
-use Prim.Native.Nat.{ℕ, _+_, _*_, _/_, _%_}
+use Prim.Native.Nat.{ℕ, _+_, _*_}
 use mathlib.Core.Bool.{_&&_}
 use mathlib.Core.List.{List, [], _∷_, _++_}
 use lib.Dec.{leb, eqb}
 use lib.IntN.{ℤ}
 use lib.ListN.{length}
-use Rattle.algebra.specs.Table.{joined}
+use Rattle.algebra.specs.Table.{joined, over}
 use Rattle.rules.specs.Grid.{inRange, within, controls, control, store}
 use Rattle.rules.specs.Bytes.{bytesOf, valueBytes, numberAt, valueAt, recordCheck}
-use Rattle.rules.specs.Answers.{short, field, trailing, Check, require, _then_, firstOf, Answer, answer, left}
-use Rattle.rules.specs.Calls.{Cells, cellsCheck, latticeCheck}
+use Rattle.rules.specs.Answers.{short, field, trailing, Check, require, _then_, firstOf, Outcome, call}
+use Rattle.rules.specs.Calls.{CellCounts, cellsCheck, latticeCheck}
 
 -- "LH" (0x4C 0x48), "LR" (0x4C 0x52), "LE" (0x4C 0x45)
 unfoldable pub LH : List ℕ
@@ -48,8 +48,8 @@ fileM file = numberAt 2 file 2
 unfoldable pub fileN : List ℕ → ℕ
 fileN file = numberAt 2 file 4
 
-unfoldable pub headCheck : List ℕ → Check
-headCheck file = recordCheck LH file 0 6 then require (within 1 512 (fileM file)) (field 2) then require (within 1 512 (fileN file)) (field 4)
+unfoldable pub latticeHeadCheck : List ℕ → Check
+latticeHeadCheck file = recordCheck LH file 0 6 then require (within 1 512 (fileM file)) (field 2) then require (within 1 512 (fileN file)) (field 4)
 
 unfoldable pub rowCheck : ℕ → List ℕ → ℕ → Check
 rowCheck m file r =
@@ -69,7 +69,7 @@ unfoldable pub latticeFileCheck : List ℕ → Check
 latticeFileCheck file =
     let m = fileM file in
     let n = fileN file in
-    headCheck file then firstOf (n + 3) (rowCheck m file) then endCheck m n file
+    latticeHeadCheck file then firstOf (n + 3) (rowCheck m file) then endCheck m n file
 
 -- the control values that the file holds
 unfoldable pub fileLattice : List ℕ → List ℤ
@@ -78,11 +78,9 @@ fileLattice file = store (fileM file) (fileN file) (λ s t. valueAt file (rowSta
 unfoldable pub readLatticeCheck : List ℕ → List ℤ → Check
 readLatticeCheck file output = latticeFileCheck file then require (leb (controls (fileM file) (fileN file)) (length output)) short
 
-unfoldable pub readLatticeAnswer : List ℕ → List ℤ → Answer Cells
-readLatticeAnswer file output = answer (readLatticeCheck file output) (record { m = fileM file; n = fileN file })
-
-unfoldable pub readLatticeLeaves : List ℕ → List ℤ → List ℤ
-readLatticeLeaves file output = left (readLatticeAnswer file output) (fileLattice file) output
+unfoldable pub readLatticeCall : List ℕ → List ℤ → Outcome CellCounts (List ℤ)
+readLatticeCall file output =
+    call (readLatticeCheck file output) (record { m = fileM file; n = fileN file }) (over (fileLattice file) output) output
 
 -- ---- the writer
 
@@ -92,9 +90,7 @@ writeLatticeCheck m n lattice output =
     then require (leb (controls m n) (length lattice) && leb (latticeFileLength m n) (length output)) short
     then latticeCheck m n lattice
 
--- the bytes written
-unfoldable pub writeLatticeAnswer : ℕ → ℕ → List ℤ → List ℕ → Answer ℕ
-writeLatticeAnswer m n lattice output = answer (writeLatticeCheck m n lattice output) (latticeFileLength m n)
-
-unfoldable pub writeLatticeLeaves : ℕ → ℕ → List ℤ → List ℕ → List ℕ
-writeLatticeLeaves m n lattice output = left (writeLatticeAnswer m n lattice output) (latticeFile m n lattice) output
+-- it returns the bytes written
+unfoldable pub writeLatticeCall : ℕ → ℕ → List ℤ → List ℕ → Outcome ℕ (List ℕ)
+writeLatticeCall m n lattice output =
+    call (writeLatticeCheck m n lattice output) (latticeFileLength m n) (over (latticeFile m n lattice) output) output

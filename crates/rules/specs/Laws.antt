@@ -1,6 +1,7 @@
 pub mod Basis
 pub mod Bytes
 pub mod Checks
+pub mod Passed
 pub mod Rounding
 pub mod Surface
 pub mod TwoScale

@@ -1,5 +1,5 @@
 -- "Fitting one level" of document 01: "All in f64, each operation rounded once, in this order". Definitions only.
-use Prim.Native.Nat.{ℕ, zero, suc, _+_, _-_, _*_, _/_, _%_}
+use Prim.Native.Nat.{ℕ, _+_, _-_, _*_}
 use mathlib.Core.Bool.{Bool, true, false, _&&_, cond}
 use mathlib.Core.Option.{Option, none, some}
 use mathlib.Core.List.{List, [], _∷_}
@@ -7,7 +7,7 @@ use lib.Dec.{leb, ltb}
 use lib.IntN.{ℤ, pos, negℤ}
 use lib.Ieee.{Float, nan, inf, fin, binary64, add, mul, div, lt, ofInt, ofBits, up, down}
 use Rattle.rules.specs.Rounding.{near}
-use Rattle.rules.specs.Grid.{Lattice, inRange}
+use Rattle.rules.specs.Grid.{inRange}
 use Rattle.rules.specs.Surface.{numerator, denominator, cell, offset}
 
 -- ---- the operations of f64

@@ -5,10 +5,12 @@ pub mod Level
 pub mod Refinement
 pub mod Fit
 pub mod Calls
+pub mod Demand3
 pub mod Bytes
 pub mod LatticeFile
 pub mod PointFile
 pub mod Program
 pub mod Answers
 pub mod Examples
+pub mod FitExamples
 pub mod Laws

@@ -3,14 +3,15 @@ use Prim.Native.Nat.{ℕ, _+_, _*_}
 use mathlib.Core.Bool.{_&&_}
 use mathlib.Core.List.{List, [], _∷_, _++_}
 use lib.Dec.{leb, eqb}
-use lib.IntN.{ℤ, pos}
-use lib.ListN.{length, getD}
-use Rattle.algebra.specs.Table.{tabulate, joined}
+use lib.IntN.{ℤ}
+use lib.ListN.{length}
+use Rattle.algebra.specs.Table.{tabulate, joined, over}
 use Rattle.rules.specs.Grid.{inRange, within, inside}
-use Rattle.rules.specs.Fit.{Shape, columns, rows}
+use Rattle.rules.specs.Level.{Point}
+use Rattle.rules.specs.Fit.{Shape, columns, rows, Survey, survey, pointCount, pointAt}
 use Rattle.rules.specs.Bytes.{bytesOf, valueBytes, numberAt, valueAt, recordCheck}
-use Rattle.rules.specs.Answers.{short, field, trailing, Check, require, _then_, firstOf, Answer, answer, left}
-use Rattle.rules.specs.Calls.{cellsCheck, levelsCountCheck, listsCheck, pointsCheck}
+use Rattle.rules.specs.Answers.{short, field, trailing, Check, require, _then_, firstOf, Outcome, call}
+use Rattle.rules.specs.Calls.{surveyCheck, pointsCheck}
 
 -- "PH" (0x50 0x48), "PT" (0x50 0x54)
 unfoldable pub PH : List ℕ
@@ -20,14 +21,14 @@ unfoldable pub PT : List ℕ
 PT = 0x50 ∷ 0x54 ∷ []
 
 -- ""PT" .., x u16, y u16, z"
-unfoldable pub pointRecord : ℕ → ℕ → ℤ → List ℕ
-pointRecord x y z = PT ++ bytesOf 2 x ++ bytesOf 2 y ++ valueBytes z
+unfoldable pub pointRecord : Point → List ℕ
+pointRecord p = PT ++ bytesOf 2 (p .x) ++ bytesOf 2 (p .y) ++ valueBytes (p .z)
 
 -- ""PH" .., m0, n0, h one byte each, a zero byte, p as u16; p times .."
-unfoldable pub pointFile : Shape → List ℕ → List ℕ → List ℤ → List ℕ
-pointFile a xs ys zs =
-    (PH ++ bytesOf 1 (a .m0) ++ bytesOf 1 (a .n0) ++ bytesOf 1 (a .h) ++ bytesOf 1 0 ++ bytesOf 2 (length xs))
-    ++ joined (length xs) (λ i. pointRecord (getD xs i 0) (getD ys i 0) (getD zs i (pos 0)))
+unfoldable pub pointFile : Shape → Survey → List ℕ
+pointFile a s =
+    (PH ++ bytesOf 1 (a .m0) ++ bytesOf 1 (a .n0) ++ bytesOf 1 (a .h) ++ bytesOf 1 0 ++ bytesOf 2 (pointCount s))
+    ++ joined (pointCount s) (λ i. pointRecord (pointAt s i))
 
 -- ---- where the records stand
 
@@ -54,8 +55,12 @@ fileY file i = numberAt 2 file (pointStart i + 4)
 unfoldable pub fileZ : List ℕ → ℕ → ℤ
 fileZ file i = valueAt file (pointStart i + 6)
 
-unfoldable pub headCheck : List ℕ → Check
-headCheck file =
+-- the points that the file holds
+unfoldable pub fileSurvey : List ℕ → Survey
+fileSurvey file = let p = filePoints file in survey (tabulate p (fileX file)) (tabulate p (fileY file)) (tabulate p (fileZ file))
+
+unfoldable pub pointHeadCheck : List ℕ → Check
+pointHeadCheck file =
     let a = fileShape file in
     recordCheck PH file 0 8
     then require (within 1 16 (a .m0)) (field 2)
@@ -63,8 +68,8 @@ headCheck file =
     then require (leb (a .h) 5) (field 4)
     then require (eqb (numberAt 1 file 5) 0) (field 5)
 
-unfoldable pub pointCheck : Shape → List ℕ → ℕ → Check
-pointCheck a file i =
+unfoldable pub pointRecordCheck : Shape → List ℕ → ℕ → Check
+pointRecordCheck a file i =
     let s = pointStart i in
     recordCheck PT file s 14
     then require (inside 16 (columns a (a .h)) (fileX file i)) (field (s + 2))
@@ -74,8 +79,8 @@ pointCheck a file i =
 unfoldable pub pointFileCheck : List ℕ → Check
 pointFileCheck file =
     let p = filePoints file in
-    headCheck file
-    then firstOf p (pointCheck (fileShape file) file)
+    pointHeadCheck file
+    then firstOf p (pointRecordCheck (fileShape file) file)
     then require (eqb (length file) (pointStart p)) (trailing (pointStart p))
 
 -- "header fields": m0, n0, h and p
@@ -83,39 +88,29 @@ pub record Header : Type 0 where
   pub shape : Shape
   pub points : ℕ
 
-unfoldable pub readPointsCheck : List ℕ → List ℕ → List ℕ → List ℤ → Check
-readPointsCheck file xs ys zs =
+-- a reader's output lists may differ in length; each needs a place for every point
+unfoldable pub readPointsCheck : List ℕ → Survey → Check
+readPointsCheck file lent =
     let p = filePoints file in
-    pointFileCheck file then require (leb p (length xs) && leb p (length ys) && leb p (length zs)) short
+    pointFileCheck file then require (leb p (length (lent .xs)) && leb p (length (lent .ys)) && leb p (length (lent .zs))) short
 
-unfoldable pub readPointsAnswer : List ℕ → List ℕ → List ℕ → List ℤ → Answer Header
-readPointsAnswer file xs ys zs = answer (readPointsCheck file xs ys zs) (record { shape = fileShape file; points = filePoints file })
+-- a survey over the first places of the lists lent
+unfoldable pub overLists : Survey → Survey → Survey
+overLists s lent = survey (over (s .xs) (lent .xs)) (over (s .ys) (lent .ys)) (over (s .zs) (lent .zs))
 
--- the slices that a point reader is lent, and what they hold afterwards
-pub record Lists : Type 0 where
-  pub xs : List ℕ
-  pub ys : List ℕ
-  pub zs : List ℤ
-
-unfoldable pub readPointsLeaves : List ℕ → List ℕ → List ℕ → List ℤ → Lists
-readPointsLeaves file xs ys zs =
-    let told = readPointsAnswer file xs ys zs in
-    let p = filePoints file in
-    record { xs = left told (tabulate p (fileX file)) xs; ys = left told (tabulate p (fileY file)) ys; zs = left told (tabulate p (fileZ file)) zs }
+unfoldable pub readPointsCall : List ℕ → Survey → Outcome Header Survey
+readPointsCall file lent =
+    call (readPointsCheck file lent) (record { shape = fileShape file; points = filePoints file }) (overLists (fileSurvey file) lent) lent
 
 -- ---- the writer
 
-unfoldable pub writePointsCheck : Shape → List ℕ → List ℕ → List ℤ → List ℕ → Check
-writePointsCheck a xs ys zs output =
-    cellsCheck 16 (a .m0) (a .n0)
-    then levelsCountCheck (a .h)
-    then listsCheck xs ys zs
-    then require (leb (pointFileLength (length xs)) (length output)) short
-    then pointsCheck 16 (columns a (a .h)) (rows a (a .h)) xs ys zs
+unfoldable pub writePointsCheck : Shape → Survey → List ℕ → Check
+writePointsCheck a s output =
+    surveyCheck a s
+    then require (leb (pointFileLength (pointCount s)) (length output)) short
+    then pointsCheck 16 (columns a (a .h)) (rows a (a .h)) s
 
--- the bytes written
-unfoldable pub writePointsAnswer : Shape → List ℕ → List ℕ → List ℤ → List ℕ → Answer ℕ
-writePointsAnswer a xs ys zs output = answer (writePointsCheck a xs ys zs output) (pointFileLength (length xs))
-
-unfoldable pub writePointsLeaves : Shape → List ℕ → List ℕ → List ℤ → List ℕ → List ℕ
-writePointsLeaves a xs ys zs output = left (writePointsAnswer a xs ys zs output) (pointFile a xs ys zs) output
+-- it returns the bytes written
+unfoldable pub writePointsCall : Shape → Survey → List ℕ → Outcome ℕ (List ℕ)
+writePointsCall a s output =
+    call (writePointsCheck a s output) (pointFileLength (pointCount s)) (over (pointFile a s) output) output

@@ -5,12 +5,10 @@ use mathlib.Core.Option.{none, some}
 use mathlib.Core.List.{List, [], _∷_, _++_}
 use lib.Dec.{leb, ltb}
 use lib.ListN.{length}
-use Rattle.algebra.specs.Table.{tabulate}
-use Rattle.rules.specs.Level.{Point}
-use Rattle.rules.specs.Fit.{Shape, columns, rows, pointsOf, running, levelsCheck}
+use Rattle.rules.specs.Fit.{Shape, columns, rows, Survey, singleLattice, levelsCheck}
 use Rattle.rules.specs.Answers.{Refusal, number, place, short, Check, require, _then_}
 use Rattle.rules.specs.LatticeFile.{latticeFile}
-use Rattle.rules.specs.PointFile.{fileShape, filePoints, fileX, fileY, fileZ, pointFileCheck}
+use Rattle.rules.specs.PointFile.{fileShape, fileSurvey, pointFileCheck}
 
 -- a number in decimal, as characters; its digits are at most k + 1
 unfoldable pub digits : ℕ → ℕ → List ℕ
@@ -25,10 +23,6 @@ unfoldable pub refusedLine : Refusal → List ℕ
 refusedLine r =
     (114 ∷ 101 ∷ 102 ∷ 117 ∷ 115 ∷ 101 ∷ 100 ∷ 32 ∷ []) ++ decimal (number r) ++ (32 ∷ []) ++ decimal (place r) ++ (10 ∷ [])
 
--- the points that a point file holds
-unfoldable pub pointsIn : List ℕ → List Point
-pointsIn file = let p = filePoints file in pointsOf (tabulate p (fileX file)) (tabulate p (fileY file)) (tabulate p (fileZ file))
-
 -- "It takes at most 7,008 bytes and 16 finest cells a side. More bytes: refused 4 0, before reading the file; more cells: the same, after the reader"
 unfoldable pub programCheck : List ℕ → Check
 programCheck input =
@@ -36,12 +30,12 @@ programCheck input =
     require (leb (length input) 7_008) short
     then pointFileCheck input
     then require (leb (columns a (a .h)) 16 && leb (rows a (a .h)) 16) short
-    then levelsCheck a (pointsIn input)
+    then levelsCheck a (fileSurvey input)
 
 -- "writes the lattice file, or one line"
-unfoldable pub written : Check → Shape → List Point → List ℕ
-written (some r) a points = refusedLine r
-written none a points = latticeFile (columns a (a .h)) (rows a (a .h)) (running a points (a .h))
+unfoldable pub written : Check → Shape → Survey → List ℕ
+written (some r) a s = refusedLine r
+written none a s = latticeFile (columns a (a .h)) (rows a (a .h)) (singleLattice a s)
 
 unfoldable pub programOutput : List ℕ → List ℕ
-programOutput input = written (programCheck input) (fileShape input) (pointsIn input)
+programOutput input = written (programCheck input) (fileShape input) (fileSurvey input)

@@ -29,12 +29,13 @@ cell U m x = min (x / U) (m - 1)
 unfoldable pub offset : ℕ → ℕ → ℕ → ℕ
 offset U m x = x - cell U m x * U
 
+-- The sum of four weights times the four values that stand from place c on.
+unfoldable pub weighted : (ℕ → ℤ) → (ℕ → ℤ) → ℕ → ℤ
+weighted w f c = w 0 *ℤ f c +ℤ w 1 *ℤ f (c + 1) +ℤ w 2 *ℤ f (c + 2) +ℤ w 3 *ℤ f (c + 3)
+
 -- The sum of products of numerators and control values along one axis. "Cell c uses control indices c-1 to c+2": the values that stand at c to c + 3.
 unfoldable pub along : ℕ → ℕ → ℕ → (ℕ → ℤ) → ℤ
-along U m x f =
-    let c = cell U m x in
-    let a = pos (offset U m x) in
-    numerator (pos U) a 0 *ℤ f c +ℤ numerator (pos U) a 1 *ℤ f (c + 1) +ℤ numerator (pos U) a 2 *ℤ f (c + 2) +ℤ numerator (pos U) a 3 *ℤ f (c + 3)
+along U m x f = weighted (numerator (pos U) (pos (offset U m x))) f (cell U m x)
 
 -- "The exact surface is the double sum of products of numerators and control values, over 36U⁶": the sum
 unfoldable pub surface : ℕ → ℕ → ℕ → Lattice → ℕ → ℕ → ℤ

@@ -2,15 +2,15 @@
 ghost use mathlib.Core.Path.{_≡_};
 ghost use Prim.Native.Nat.{_≤_};
 ghost use lib.ListN.{length};
-ghost use Rattle.rules.specs.Answers.{_then_};
-ghost use Rattle.rules.specs.Calls.{cellsCheck, levelsCountCheck, listsCheck, pointsCheck};
+ghost use Rattle.rules.specs.Fit.{shape, survey};
+ghost use Rattle.rules.specs.Calls.{surveyCheck, pointsCheck};
 ghost use Rattle.answers.specs.Cause.{check};
 use answers::Refusal;
 use answers::Verdict;
 
 // 1, 2 and 3: the cell counts, the levels and the lists
 pub fn head(m0: usize, n0: usize, h: usize, xs: &[u16], ys: &[u16], zs: &[i64]) -> Verdict
-    ensures { λ r. ⌜ check r ≡ (cellsCheck 16 m0 n0 then levelsCountCheck h then listsCheck (now (xs .entry)) (now (ys .entry)) (now (zs .entry))) ⌝ }
+    ensures { λ r. ⌜ check r ≡ surveyCheck (shape m0 n0 h) (survey (now (xs .entry)) (now (ys .entry)) (now (zs .entry))) ⌝ }
 {
     if let Verdict::Refused(r) = checks::cells(16, m0, n0) {
         return Verdict::Refused(r);
@@ -33,7 +33,7 @@ pub fn head(m0: usize, n0: usize, h: usize, xs: &[u16], ys: &[u16], zs: &[i64]) 
 // 5 before 6 in a point, points in list order; right and top are the last positions of m by n cells of 16.
 pub fn points(m: usize, n: usize, xs: &[u16], ys: &[u16], zs: &[i64]) -> Verdict
     requires { ⌜ (m ≤ 512) × (n ≤ 512) × (length (now ys) ≡ length (now xs)) × (length (now zs) ≡ length (now xs)) ⌝ }
-    ensures { λ r. ⌜ check r ≡ pointsCheck 16 m n (now (xs .entry)) (now (ys .entry)) (now (zs .entry)) ⌝ }
+    ensures { λ r. ⌜ check r ≡ pointsCheck 16 m n (survey (now (xs .entry)) (now (ys .entry)) (now (zs .entry))) ⌝ }
 {
     let right = 16 * m;
     let top = 16 * n;

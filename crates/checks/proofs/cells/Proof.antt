@@ -1,34 +1,33 @@
--- `checks::cells` meets its contract: each refusal is decided by the test that led to it, after the tests that passed before.
-use borrow.Author.Tests.{le-leb, lt-leb}
-use Rattle.rules.specs.Grid.{within}
+-- `checks::cells` meets its contract: each refusal is decided by the side that is out of bounds.
+use mathlib.Core.Path.{sym, _∙_}
+use borrow.Author.Needs.{needs}
+use borrow.Author.Tests.{not-true, not-false}
 use Rattle.rules.specs.Answers.{require}
 use Rattle.rules.specs.Calls.{cellsCheck}
 use Rattle.checks.proofs.cells.Statement.{statement}
 use Rattle.checks.proofs.cells.Tie as tie
 
+within-requires : tie.Need-within-requires
+within-requires c κs = search needs
+
 returns : tie.Need-returns
-unfolding cellsCheck require within
-returns c = simp (lt-leb _ _ (c .if1 .taken))
+unfolding cellsCheck require
+returns c = simp (sym (c .before .within .ensures) ∙ not-true _ (c .if1 .taken))
+
+within-requires-2 : tie.Need-within-requires-2
+within-requires-2 c κs = search needs
 
 returns-2 : tie.Need-returns-2
-unfolding cellsCheck require within
-returns-2 c = simp (le-leb _ _ (c .before .if1 .left), lt-leb _ _ (c .if2 .taken))
+unfolding cellsCheck require
+returns-2 c =
+    simp
+    (sym (c .before .before .before .within .ensures) ∙ not-false _ (c .before .before .if1 .left), sym (c .before .within2 .ensures) ∙ not-true _ (c .if2 .taken))
 
 returns-3 : tie.Need-returns-3
-unfolding cellsCheck require within
-returns-3 c = simp (le-leb _ _ (c .before .before .if1 .left), le-leb _ _ (c .before .if2 .left), lt-leb _ _ (c .if3 .taken))
-
-returns-4 : tie.Need-returns-4
-unfolding cellsCheck require within
-returns-4 c =
+unfolding cellsCheck require
+returns-3 c =
     simp
-    (le-leb _ _ (c .before .before .before .if1 .left), le-leb _ _ (c .before .before .if2 .left), le-leb _ _ (c .before .if3 .left), lt-leb _ _ (c .if4 .taken))
-
-returns-5 : tie.Need-returns-5
-unfolding cellsCheck require within
-returns-5 c =
-    simp
-    (le-leb _ _ (c .before .before .before .if1 .left), le-leb _ _ (c .before .before .if2 .left), le-leb _ _ (c .before .if3 .left), le-leb _ _ (c .if4 .left))
+    (sym (c .before .before .before .within .ensures) ∙ not-false _ (c .before .before .if1 .left), sym (c .before .within2 .ensures) ∙ not-false _ (c .if2 .left))
 
 pub cells-spec : {M : Type 1} → statement M
-cells-spec = tie.close (tie.spec returns returns-2 returns-3 returns-4 returns-5)
+cells-spec = tie.close (tie.spec within-requires returns within-requires-2 returns-2 returns-3)

@@ -5,11 +5,10 @@ use Prim.Native.Nat.{ℕ, _+_, _/_, _%_, _^_, _≤_}
 use native.Mathlib.Omega.{arith}
 use borrow.Author.Needs.{needs}
 use lib.ListN.{length}
-use Rattle.algebra.specs.Table.{laid}
+use Rattle.algebra.specs.Table.{laid, laid-after}
 use Rattle.machine.specs.Tests.{plain}
 use Rattle.rules.specs.Bytes.{bytesOf, complement, valueBytes}
 use Rattle.rules.specs.Laws.Bytes.{length-bytesOf, bytesOf-split, bytesOf-low}
-use Rattle.codec.specs.Laid.{laid-next}
 use Rattle.codec.proofs.put_value.Statement.{statement}
 use Rattle.codec.proofs.put_value.Tie as tie
 
@@ -19,7 +18,7 @@ more : (w at k v x : ℕ) (d e f : List ℕ) → at ≤ length d → k ≡ at + 
 more w at k v x d e f h i b p q =
     q
     ∙ ap (laid k (bytesOf 2 x)) p
-    ∙ laid-next at k (bytesOf w v) (bytesOf 2 x) d h (rw (length-bytesOf w v) i)
+    ∙ laid-after at k (bytesOf w v) (bytesOf 2 x) d h (rw (length-bytesOf w v) i)
     ∙ ap (λ l. laid at l d) (ap (λ l. bytesOf w v ++ l) b ∙ sym (bytesOf-split w 2 v))
 
 eight : (at v : ℕ) (d e f g l : List ℕ) → at ≤ length d

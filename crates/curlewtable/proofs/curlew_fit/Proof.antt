@@ -1,8 +1,12 @@
--- `curlewtable::curlew_fit` meets its contract: what it hands out is the answer of `fit::fit`.
+-- `curlewtable::curlew_fit` meets its contract: what it hands out is the answer of `fit::fit`, and demand 3 is kept where its number is that of an acceptance.
+use mathlib.Core.Path.{sym, ap, _∙_}
 use borrow.Author.Needs.{needs}
-use Rattle.fit.specs.Fitted.{told}
+use Rattle.answers.specs.Cause.{cause}
+use Rattle.rules.specs.Demand3.{Demand3}
+use Rattle.rules.specs.Laws.Checks.{number-some}
+use Rattle.fit.specs.LatticeFitted.{told}
 use Rattle.curlewtable.specs.Fields.{cellsFields}
-use Rattle.curlewtable.proofs.Handed.{handed}
+use Rattle.curlewtable.proofs.Handed.{call-handed}
 use Rattle.curlewtable.proofs.curlew_fit.Statement.{statement}
 use Rattle.curlewtable.proofs.curlew_fit.Tie as tie
 
@@ -34,9 +38,10 @@ same-length-4 : tie.Need-same-length-4
 same-length-4 c = search needs
 
 returns : tie.Need-returns
+unfolding Demand3
 returns c =
     let call = c .before .before .before .before .before .before .before .before in
-    (handed told cellsFields (call .fit .ensures .0) (c .before .m .given .1), call .fit .ensures .1)
+    (call-handed told cellsFields (call .fit .ensures .0) (c .before .m .given .1), λ accepted. call .fit .ensures .1 _ (ap told (c .before .m .given .1)))
 
 same-length-5 : tie.Need-same-length-5
 same-length-5 c = search needs
@@ -52,8 +57,10 @@ same-length-8 c = search needs
 
 returns-2 : tie.Need-returns-2
 returns-2 c =
-    let call = c .before .before .before .before .before .before .before .before .before .before in
-    (rw (c .before .number .ensures, c .place .ensures) (handed told cellsFields (call .fit .ensures .0) (c .before .before .before .r .given .1)), call .fit .ensures .1)
+    let call = c .before .before .before .before .before .before .before .before .before .before in (
+      rw (c .before .number .ensures, c .place .ensures) (call-handed told cellsFields (call .fit .ensures .0) (c .before .before .before .r .given .1)),
+      λ accepted. absurd (number-some (cause (c .before .before .before .r .given .0 .0)) (sym (c .before .number .ensures) ∙ accepted)),
+    )
 
 pub curlew-fit-spec : {M : Type 1} → statement M
 curlew-fit-spec =

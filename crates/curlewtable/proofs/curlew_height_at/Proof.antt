@@ -4,7 +4,7 @@ use mir.Syntax.{w64}
 use mir.ValLaws.{toZ-ofZ}
 use Rattle.heights.specs.Reading.{told}
 use Rattle.curlewtable.specs.Fields.{heightFields}
-use Rattle.curlewtable.proofs.Handed.{handed}
+use Rattle.curlewtable.proofs.Handed.{answer-handed}
 use Rattle.curlewtable.proofs.curlew_height_at.Statement.{statement}
 use Rattle.curlewtable.proofs.curlew_height_at.Tie as tie
 
@@ -26,12 +26,12 @@ place-requires c κs = search needs
 returns : tie.Need-returns
 returns c =
     rw (toZ-ofZ w64 (c .before .z .given .0 .0) (record { sfits = c .known-told .given .0 .1 }))
-    (handed told heightFields (c .before .before .before .height .ensures) (c .before .z .given .1))
+    (answer-handed told heightFields (c .before .before .before .height .ensures) (c .before .z .given .1))
 
 returns-2 : tie.Need-returns-2
 returns-2 c =
     rw (c .before .number .ensures, c .place .ensures)
-    (handed told heightFields (c .before .before .before .before .before .height .ensures) (c .before .before .before .r .given .1))
+    (answer-handed told heightFields (c .before .before .before .before .before .height .ensures) (c .before .before .before .r .given .1))
 
 pub curlew-height-at-spec : {M : Type 1} → statement M
 curlew-height-at-spec =

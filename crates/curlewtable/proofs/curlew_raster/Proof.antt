@@ -2,7 +2,7 @@
 use borrow.Author.Needs.{needs}
 use Rattle.raster.specs.Sampled.{told}
 use Rattle.curlewtable.specs.Fields.{countFields}
-use Rattle.curlewtable.proofs.Handed.{handed}
+use Rattle.curlewtable.proofs.Handed.{call-handed}
 use Rattle.curlewtable.proofs.curlew_raster.Statement.{statement}
 use Rattle.curlewtable.proofs.curlew_raster.Tie as tie
 
@@ -27,17 +27,15 @@ same-length c = search needs
 returns : tie.Need-returns
 returns c =
     let call = c .before .before .before .before in
-    (handed told countFields (call .raster .ensures .0) (c .before .q .given .1), call .raster .ensures .1)
+    call-handed told countFields (call .raster .ensures) (c .before .q .given .1)
 
 same-length-2 : tie.Need-same-length-2
 same-length-2 c = search needs
 
 returns-2 : tie.Need-returns-2
 returns-2 c =
-    let call = c .before .before .before .before .before .before in (
-      rw (c .before .number .ensures, c .place .ensures) (handed told countFields (call .raster .ensures .0) (c .before .before .before .r .given .1)),
-      call .raster .ensures .1,
-    )
+    let call = c .before .before .before .before .before .before in
+    rw (c .before .number .ensures, c .place .ensures) (call-handed told countFields (call .raster .ensures) (c .before .before .before .r .given .1))
 
 pub curlew-raster-spec : {M : Type 1} → statement M
 curlew-raster-spec =

@@ -2,7 +2,7 @@
 use borrow.Author.Needs.{needs}
 use Rattle.lattice_file.specs.Told.{readTold}
 use Rattle.curlewtable.specs.Fields.{cellsFields}
-use Rattle.curlewtable.proofs.Handed.{handed}
+use Rattle.curlewtable.proofs.Handed.{call-handed}
 use Rattle.curlewtable.proofs.curlew_read_lattice.Statement.{statement}
 use Rattle.curlewtable.proofs.curlew_read_lattice.Tie as tie
 
@@ -27,17 +27,15 @@ same-length c = search needs
 returns : tie.Need-returns
 returns c =
     let call = c .before .before .before .before in
-    (handed readTold cellsFields (call .read-lattice .ensures .0) (c .before .m .given .1), call .read-lattice .ensures .1)
+    call-handed readTold cellsFields (call .read-lattice .ensures) (c .before .m .given .1)
 
 same-length-2 : tie.Need-same-length-2
 same-length-2 c = search needs
 
 returns-2 : tie.Need-returns-2
 returns-2 c =
-    let call = c .before .before .before .before .before .before in (
-      rw (c .before .number .ensures, c .place .ensures) (handed readTold cellsFields (call .read-lattice .ensures .0) (c .before .before .before .r .given .1)),
-      call .read-lattice .ensures .1,
-    )
+    let call = c .before .before .before .before .before .before in
+    rw (c .before .number .ensures, c .place .ensures) (call-handed readTold cellsFields (call .read-lattice .ensures) (c .before .before .before .r .given .1))
 
 pub curlew-read-lattice-spec : {M : Type 1} → statement M
 curlew-read-lattice-spec =

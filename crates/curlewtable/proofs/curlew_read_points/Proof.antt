@@ -2,7 +2,7 @@
 use borrow.Author.Needs.{needs}
 use Rattle.point_file.specs.Told.{readTold}
 use Rattle.curlewtable.specs.Fields.{headerFields}
-use Rattle.curlewtable.proofs.Handed.{handed}
+use Rattle.curlewtable.proofs.Handed.{call-handed}
 use Rattle.curlewtable.proofs.curlew_read_points.Statement.{statement}
 use Rattle.curlewtable.proofs.curlew_read_points.Tie as tie
 
@@ -33,7 +33,7 @@ same-length-3 c = search needs
 returns : tie.Need-returns
 returns c =
     let call = c .before .before .before .before .before .before .before .before in
-    (handed readTold headerFields (call .read-points .ensures .0) (c .before .a .given .1), call .read-points .ensures .1)
+    call-handed readTold headerFields (call .read-points .ensures) (c .before .a .given .1)
 
 same-length-4 : tie.Need-same-length-4
 same-length-4 c = search needs
@@ -46,10 +46,8 @@ same-length-6 c = search needs
 
 returns-2 : tie.Need-returns-2
 returns-2 c =
-    let call = c .before .before .before .before .before .before .before .before .before .before in (
-      rw (c .before .number .ensures, c .place .ensures) (handed readTold headerFields (call .read-points .ensures .0) (c .before .before .before .r .given .1)),
-      call .read-points .ensures .1,
-    )
+    let call = c .before .before .before .before .before .before .before .before .before .before in
+    rw (c .before .number .ensures, c .place .ensures) (call-handed readTold headerFields (call .read-points .ensures) (c .before .before .before .r .given .1))
 
 pub curlew-read-points-spec : {M : Type 1} → statement M
 curlew-read-points-spec =

@@ -2,7 +2,7 @@
 use borrow.Author.Needs.{needs}
 use Rattle.refinement.specs.Refined.{told}
 use Rattle.curlewtable.specs.Fields.{cellsFields}
-use Rattle.curlewtable.proofs.Handed.{handed}
+use Rattle.curlewtable.proofs.Handed.{call-handed}
 use Rattle.curlewtable.proofs.curlew_refine.Statement.{statement}
 use Rattle.curlewtable.proofs.curlew_refine.Tie as tie
 
@@ -27,17 +27,15 @@ same-length c = search needs
 returns : tie.Need-returns
 returns c =
     let call = c .before .before .before .before in
-    (handed told cellsFields (call .refine .ensures .0) (c .before .m2 .given .1), call .refine .ensures .1)
+    call-handed told cellsFields (call .refine .ensures) (c .before .m2 .given .1)
 
 same-length-2 : tie.Need-same-length-2
 same-length-2 c = search needs
 
 returns-2 : tie.Need-returns-2
 returns-2 c =
-    let call = c .before .before .before .before .before .before in (
-      rw (c .before .number .ensures, c .place .ensures) (handed told cellsFields (call .refine .ensures .0) (c .before .before .before .r .given .1)),
-      call .refine .ensures .1,
-    )
+    let call = c .before .before .before .before .before .before in
+    rw (c .before .number .ensures, c .place .ensures) (call-handed told cellsFields (call .refine .ensures) (c .before .before .before .r .given .1))
 
 pub curlew-refine-spec : {M : Type 1} → statement M
 curlew-refine-spec =

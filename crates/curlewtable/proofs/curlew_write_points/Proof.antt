@@ -2,7 +2,7 @@
 use borrow.Author.Needs.{needs}
 use Rattle.point_file.specs.Told.{writtenTold}
 use Rattle.curlewtable.specs.Fields.{countFields}
-use Rattle.curlewtable.proofs.Handed.{handed}
+use Rattle.curlewtable.proofs.Handed.{call-handed}
 use Rattle.curlewtable.proofs.curlew_write_points.Statement.{statement}
 use Rattle.curlewtable.proofs.curlew_write_points.Tie as tie
 
@@ -27,17 +27,15 @@ same-length c = search needs
 returns : tie.Need-returns
 returns c =
     let call = c .before .before .before .before .before in
-    (handed writtenTold countFields (call .write-points .ensures .0) (c .before .b .given .1), call .write-points .ensures .1)
+    call-handed writtenTold countFields (call .write-points .ensures) (c .before .b .given .1)
 
 same-length-2 : tie.Need-same-length-2
 same-length-2 c = search needs
 
 returns-2 : tie.Need-returns-2
 returns-2 c =
-    let call = c .before .before .before .before .before .before .before in (
-      rw (c .before .number .ensures, c .place .ensures) (handed writtenTold countFields (call .write-points .ensures .0) (c .before .before .before .r .given .1)),
-      call .write-points .ensures .1,
-    )
+    let call = c .before .before .before .before .before .before .before in
+    rw (c .before .number .ensures, c .place .ensures) (call-handed writtenTold countFields (call .write-points .ensures) (c .before .before .before .r .given .1))
 
 pub curlew-write-points-spec : {M : Type 1} → statement M
 curlew-write-points-spec =

@@ -1,24 +1,18 @@
 -- `fit_steps::add` meets its contract. The loop's invariant: the sums passed are laid and none is out of range, and those to add are as they were.
-use mathlib.Core.List.{List}
 use mathlib.Core.Logic.{inr}
-use Prim.Native.Nat.{ℕ, _+_, _-_, _≤_}
+use Prim.Native.Nat.{ℕ, _+_, _-_}
 use native.Mathlib.Omega.{arith}
-use lib.IntN.{ℤ, pos, natAbs}
-use lib.ListN.{getD}
-use mir.Syntax.{w64}
-use mir.Val.{toZ, ofZ}
-use Rattle.algebra.specs.Table.{Apart, area, getD-area}
-use Rattle.machine.specs.Held.{Held, Number, number, read, plus, fits}
-use Rattle.rules.specs.Grid.{limit}
+use Rattle.algebra.specs.Table.{Apart, area}
+use Rattle.machine.specs.Held.{Number, number, read, plus, fits}
 use Rattle.rules.specs.Laws.Checks.{AllInRange}
-use Rattle.fit_steps.specs.Steps.{summedAt, summed}
-use Rattle.fit_steps.proofs.Partly.{entry-kept}
+use Rattle.fit_steps.specs.Steps.{sumAt, summed}
+use Rattle.fit_steps.proofs.Entries.{entry-held}
 use Rattle.fit_steps.proofs.Tested.{Tested, untested, passed, refused, accepted}
 use Rattle.fit_steps.proofs.add.Statement.{statement}
 use Rattle.fit_steps.proofs.add.Tie as tie
 
 abbrev Inv-loop : tie.InvT-loop
-Inv-loop count whole₀ level to q₀ whole q = Tested to count q (summedAt whole₀ level to) whole₀ whole
+Inv-loop count whole₀ level to q₀ whole q = Tested to count q (sumAt (area to count whole₀) (area level count whole₀)) whole₀ whole
 
 abbrev μ-loop : tie.MeasureT-loop
 μ-loop count whole₀ level to q₀ whole q = count - q
@@ -29,19 +23,13 @@ module _ (c : tie.In-loop Inv-loop μ-loop) where
   abbrev start : tie.Start Inv-loop μ-loop
   start = c .before .before
 
-  abbrev whole : List ℤ
-  whole = start .args .whole .now
-
-  -- an entry that the loop has not changed yet, read from an area that is in range
-  entry : (n : ℕ) → AllInRange (start .args .count) (area n (start .args .count) whole) → Apart (n + c .before .loop .q) 1 (start .args .to) (c .before .loop .q)
-      → Held (toZ w64 (ofZ w64 (getD (c .before .loop .whole) (n + c .before .loop .q) (pos 0)))) (getD whole (n + c .before .loop .q) (pos 0)) limit
-  entry n range apart =
-      let q = c .before .loop .q in
-      let size : natAbs (getD whole (n + q) (pos 0)) ≤ limit = rw (← getD-area n (start .args .count) whole q (pos 0) (c .loop-test .taken)) (range q (c .loop-test .taken)) in
-      read tt (record { is = entry-kept (c .before .loop .inv .partly) (n + q) (omega arith) apart; size = size })
+  -- an entry of an area that is in range
+  abbrev entry : (n : ℕ) → AllInRange (start .args .count) (area n (start .args .count) (start .args .whole .now))
+      → Apart (n + c .before .loop .q) 1 (start .args .to) (c .before .loop .q) → Number
+  entry n range apart = number (entry-held (c .before .loop .inv .partly) n (start .args .count) (c .before .loop .q) (c .loop-test .taken) (omega arith) apart range)
 
   abbrev total : Number
-  total = number (plus (entry (start .args .to) (start .pre .1 .1) (inr (omega arith))) (entry (start .args .level) (start .pre .1 .0) (inr (omega arith))))
+  total = number (plus (entry (start .args .to) (start .pre .1 .1) (inr (omega arith)) .held) (entry (start .args .level) (start .pre .1 .0) (inr (omega arith)) .held))
 
 -- ---- what it leaves and answers
 

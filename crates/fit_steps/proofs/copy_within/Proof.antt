@@ -5,9 +5,9 @@ use Prim.Native.Nat.{_+_, _-_, _≤_}
 use native.Mathlib.Omega.{arith}
 use lib.IntN.{pos}
 use lib.ListN.{getD}
-use Rattle.algebra.specs.Table.{tabulate-area}
+use Rattle.algebra.specs.Table.{tabulate-area, getD-area}
 use Rattle.machine.specs.Tests.{plain}
-use Rattle.fit_steps.proofs.Partly.{Partly, begun, stored, entry-kept, finished}
+use Rattle.algebra.specs.Partly.{Partly, begun, stored, entry-kept, finished}
 use Rattle.fit_steps.proofs.copy_within.Statement.{statement}
 use Rattle.fit_steps.proofs.copy_within.Tie as tie
 
@@ -47,9 +47,15 @@ loop-less c = omega arith
 loop-again : tie.Need-loop-again Inv-loop μ-loop
 loop-again c =
     let l = c .before .before in
-    let at = l .before .args .from + l .loop .q in
-    let p = l .loop .inv .1 in
-    (omega arith, stored p (omega arith) (plain (getD (l .loop .whole) at (pos 0)) (c .v .given) ∙ entry-kept p at (omega arith) (inr (omega arith))))
+    let a = l .before .args in
+    let q = l .loop .q in
+    let p = l .loop .inv .1 in (
+      omega arith,
+      stored p (omega arith)
+          (plain (getD (l .loop .whole) (a .from + q) (pos 0)) (c .v .given)
+          ∙ entry-kept p (a .from) (a .count) q (omega arith) (omega arith) (inr (omega arith))
+          ∙ getD-area (a .from) (a .count) (a .whole .now) q (pos 0) (omega arith)),
+    )
 
 same-length : tie.Need-same-length Inv-loop μ-loop
 same-length c = c .before .loop .inv .1 .long

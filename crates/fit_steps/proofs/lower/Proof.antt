@@ -5,26 +5,25 @@ use mathlib.Core.List.{List}
 use mathlib.Core.Logic.{inl, inr}
 use Prim.Native.Nat.{ℕ, _+_, _-_, _*_, _^_, _≤_}
 use native.Mathlib.Omega.{arith}
-use lib.IntN.{ℤ, pos, natAbs}
+use lib.IntN.{ℤ, natAbs}
 use lib.ListN.{length, getD, take, drop}
 use lib.Pow.{pow-pos}
-use mir.Syntax.{w64}
-use mir.Val.{toZ, ofZ}
 use Rattle.algebra.specs.Table.{area, length-area}
-use Rattle.machine.specs.Held.{Held, Number, number, read, minus, fits}
+use Rattle.machine.specs.Held.{Number, number, read, minus, fits}
 use Rattle.rules.specs.Grid.{limit, controls, control}
 use Rattle.rules.specs.Surface.{height}
 use Rattle.rules.specs.Laws.Surface.{control-within, height-within}
 use Rattle.heights.specs.Reading.{Readable}
-use Rattle.fit_steps.specs.Steps.{loweredAt, lowered}
-use Rattle.fit_steps.proofs.Partly.{part-kept, entry-kept}
+use Rattle.algebra.specs.Partly.{part-kept}
+use Rattle.fit_steps.specs.Steps.{surveyAt, lessHeight, lessHeights}
+use Rattle.fit_steps.proofs.Entries.{entry-held}
 use Rattle.fit_steps.proofs.Tested.{Tested, untested, passed, refused, accepted}
 use Rattle.fit_steps.proofs.lower.Statement.{statement}
 use Rattle.fit_steps.proofs.lower.Tie as tie
 
 abbrev Inv-loop : tie.InvT-loop
 Inv-loop m n e xs ys whole₀ level residuals end i₀ whole i =
-    Tested residuals (length xs) i (loweredAt m n e xs ys whole₀ level residuals) whole₀ whole
+    Tested residuals (length xs) i (lessHeight m n e (area level (controls m n) whole₀) (surveyAt xs ys residuals whole₀)) whole₀ whole
 
 abbrev μ-loop : tie.MeasureT-loop
 μ-loop m n e xs ys whole₀ level residuals end i₀ whole i = length xs - i
@@ -60,22 +59,13 @@ module _ (c : tie.In-loop Inv-loop μ-loop) where
       rw part-is
       (record {
         ground = record {
-          columns = p .columns;
-          columns-most = p .columns-most;
-          rows = p .rows;
-          rows-most = p .rows-most;
-          exponent = p .exponent;
+          grid = p .grid;
           long = rw (length-area (start .args .level) (controls (start .args .m) (start .args .n)) whole (omega arith)) (omega arith);
           ranged = p .level-ranged;
         };
-        x-inside = p .x-inside i (c .loop-test .taken);
-        y-inside = p .y-inside i (c .loop-test .taken);
+        x-inside = p .placed i (c .loop-test .taken) .x-inside;
+        y-inside = p .placed i (c .loop-test .taken) .y-inside;
       })
-
-  -- the residual
-  residual : Held (toZ w64 (ofZ w64 (getD (c .before .loop .whole) (start .args .residuals + i) (pos 0)))) (getD whole (start .args .residuals + i) (pos 0)) limit
-  residual =
-      read tt (record { is = entry-kept (c .before .loop .inv .partly) (start .args .residuals + i) (omega arith) (inr (omega arith)); size = start .pre .residuals-ranged i (c .loop-test .taken) })
 
   -- the height of a lattice at the point
   abbrev there : List ℤ → ℤ
@@ -85,18 +75,21 @@ module _ (c : tie.In-loop Inv-loop μ-loop) where
   there-size =
       let p = start .pre in
       height-within (2 ^ start .args .e) (start .args .m) (start .args .n) _ _
-      (record { unit = pow-pos (start .args .e); across = p .columns; up = p .rows; x-inside = p .x-inside i (c .loop-test .taken); y-inside = p .y-inside i (c .loop-test .taken) })
+      (record { unit = pow-pos (start .args .e); across = p .grid .m-some; up = p .grid .n-some; x-inside = readable .x-inside; y-inside = readable .y-inside })
       (control (start .args .m) lattice) limit (control-within (start .args .m) (start .args .n) lattice (p .level-ranged))
 
 module _ (c : tie.After-height-within Inv-loop μ-loop) where
   abbrev turn : tie.In-loop Inv-loop μ-loop
   turn = c .before .before .before .before .before
 
-  taken : Held (toZ w64 (ofZ w64 (c .height-within .result))) (there turn (lattice turn)) limit
-  taken = read tt (record { is = c .height-within .ensures ∙ ap (there turn) (part-is turn); size = there-size turn })
-
+  -- the residual less the height
   abbrev left : Number
-  left = number (minus (residual turn) taken)
+  left =
+      let s = start turn in
+      number
+      (minus
+      (entry-held (turn .before .loop .inv .partly) (s .args .residuals) (length (s .args .xs .now)) (i turn) (turn .loop-test .taken) (omega arith) (inr (omega arith)) (λ i h. s .pre .placed i h .z-size))
+      (read tt (record { is = c .height-within .ensures ∙ ap (there turn) (part-is turn); size = there-size turn })))
 
 -- ---- what it leaves and answers
 
@@ -111,13 +104,13 @@ loop-again c =
     passed (turn h .before .loop .inv) (omega arith) (turn h .loop-test .taken) (read tt (left h .held) .is) (c .before .in-range .ensures) (c .if1 .left)
 
 returns : tie.Need-returns Inv-loop μ-loop
-unfolding lowered
+unfolding lessHeights
 returns c =
     let h = c .before .before .before in
     refused (turn h .before .loop .inv) (omega arith) (turn h .loop-test .taken) (read tt (left h .held) .is) (c .before .in-range .ensures) (c .if1 .taken)
 
 returns-2 : tie.Need-returns-2 Inv-loop μ-loop
-unfolding lowered
+unfolding lessHeights
 returns-2 c = accepted (c .before .loop .inv) (omega arith) (c .loop-test .left)
 
 -- ---- what its steps ask

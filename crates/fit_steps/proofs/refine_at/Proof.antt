@@ -1,32 +1,23 @@
 -- `fit_steps::refine_at` meets its contract. The loop's invariant: the rows passed are laid one after another, and the lattice is as it was.
 use mathlib.Core.Path.{_≡_, refl, ap, _∙_}
 use mathlib.Core.List.{List}
-use mathlib.Core.Logic.{inl, inr, ⊎-elim}
 use Prim.Native.Nat.{ℕ, _+_, _-_, _*_, _≤_}
 use native.Mathlib.Omega.{arith}
-use lib.IntN.{ℤ, pos}
-use lib.ListN.{length, getD, take, drop, length-take, length-drop}
+use lib.IntN.{ℤ}
+use lib.ListN.{length, take, drop}
 use Rattle.algebra.specs.Table.{over, tabulate, area, length-area}
-use Rattle.rules.specs.Rounding.{near}
-use Rattle.rules.specs.Grid.{controls, control}
-use Rattle.rules.specs.Refinement as rule
-use Rattle.refinement.specs.Refined.{RowsRead}
-use Rattle.refinement.specs.Rows.{value, rows-read, sums-length, sum-size, weighed-along, row-below, row-values, rows-stored}
-use Rattle.fit_steps.proofs.Partly.{Partly, begun, stored-part, part-kept, finished}
+use Rattle.rules.specs.Grid.{controls}
+use Rattle.refinement.specs.Rows.{down, RowsDone, no-row, every-row, apart-kept, row-read, row-room, part-room, row-sums, next-row}
 use Rattle.fit_steps.proofs.refine_at.Statement.{statement}
 use Rattle.fit_steps.proofs.refine_at.Tie as tie
 
 abbrev Inv-loop : tie.InvT-loop
-Inv-loop m n whole₀ from to end width sums₀ start₀ t₀ whole sums start t =
-    (t ≤ 2 * n + 3)
-    × (start ≡ to + t * (2 * m + 3))
-    × (length sums ≡ 259)
-    × Partly to (t * (2 * m + 3)) (value m (area from (controls m n) whole₀)) whole₀ whole
+Inv-loop m n whole₀ from to end width sums₀ start₀ t₀ whole sums start t = RowsDone m n (area from (controls m n) whole₀) whole₀ to t start sums whole
 
 abbrev μ-loop : tie.MeasureT-loop
 μ-loop m n whole₀ from to end width sums₀ start₀ t₀ whole sums start t = 2 * n + 3 - t
 
--- ---- what a turn reads, and where it writes
+-- ---- a turn
 
 module _ (c : tie.In-loop Inv-loop μ-loop) where
   abbrev at-start : tie.Start Inv-loop μ-loop
@@ -47,40 +38,21 @@ module _ (c : tie.In-loop Inv-loop μ-loop) where
   abbrev lattice : List ℤ
   lattice = area from (controls m n) (at-start .args .whole .now)
 
-  -- the row has its place
-  room : t * (2 * m + 3) + (2 * m + 3) ≤ controls (2 * m) (2 * n)
-  room = row-below m n t (omega arith)
+  room : c .before .loop .start + (2 * m + 3) ≤ length (c .before .loop .whole)
+  room = row-room (c .before .loop .inv) (c .loop-test .taken)
 
   -- the part that is lent to `blend`
-  abbrev part : List ℤ
-  part = take (from + (m + 3) * (n + 3) - from) (drop from (c .before .loop .whole))
-
-  part-is : part ≡ lattice
+  part-is : take (from + (m + 3) * (n + 3) - from) (drop from (c .before .loop .whole)) ≡ lattice
   unfolding controls
-  part-is =
-      part-kept (c .before .loop .inv .3) from (controls m n) (omega arith)
-      (⊎-elim inl (λ h. inr (omega (arith, room))) (at-start .pre .1 .2))
-
-  rows : RowsRead m t part
-  rows =
-      rw part-is
-      (rows-read m n t lattice (omega arith)
-      (rw (length-area from (controls m n) (at-start .args .whole .now) (omega arith)) (omega arith)) (at-start .pre .1 .3))
+  part-is = apart-kept (c .before .loop .inv) (c .loop-test .taken) from (controls m n) (at-start .pre .1 .2)
 
 module _ (c : tie.After-blend Inv-loop μ-loop) where
   abbrev turn : tie.In-loop Inv-loop μ-loop
   turn = c .before .before .before .before
 
-  abbrev sums : List ℤ
-  sums = c .blend .last .1 .1 .1 .0
-
-  -- what is weighed along the sums is the row of the refined lattice, by its places
-  row-is : tabulate (2 * m turn + 3) (λ s. near (rule.finer (λ q. getD sums q (pos 0)) s) 64)
-      ≡ tabulate (2 * m turn + 3) (λ i. value (m turn) (lattice turn) (t turn * (2 * m turn + 3) + i))
-  row-is =
-      weighed-along (m turn) (t turn) (part turn) (turn .before .loop .sums) sums (c .blend .ensures)
-      ∙ ap (λ l. tabulate (2 * m turn + 3) (λ s. rule.refined (control (m turn) l) s (t turn))) (part-is turn)
-      ∙ row-values (m turn) (t turn) (t turn * (2 * m turn + 3)) (lattice turn) refl
+  -- what it left
+  sums-are : c .blend .last .1 .1 .1 .0 ≡ over (tabulate (m turn + 3) (down (m turn) (lattice turn) (t turn))) (turn .before .loop .sums)
+  sums-are = c .blend .ensures ∙ ap (λ l. over (tabulate (m turn + 3) (down (m turn) l (t turn))) (turn .before .loop .sums)) (part-is turn)
 
 -- ---- the needs
 
@@ -105,7 +77,9 @@ add-width : tie.Need-add-width Inv-loop μ-loop
 add-width c = omega arith
 
 loop-holds : tie.Need-loop-holds Inv-loop μ-loop
-loop-holds c = (omega arith, omega arith, refl, begun (c .args .to) _ _ (c .args .whole .now) (omega arith))
+loop-holds c =
+    let a = c .args in
+    no-row (a .m) (a .n) _ (a .whole .now) (a .to) _ (c .pre .0 .1) (rw (length-area (a .from) (controls (a .m) (a .n)) (a .whole .now) (omega arith)) (omega arith)) (c .pre .1 .3) (omega arith) refl
 
 mul-loop : tie.Need-mul-loop Inv-loop μ-loop
 mul-loop c = omega arith
@@ -129,7 +103,7 @@ part-blend-end c = omega arith
 blend-requires : tie.Need-blend-requires Inv-loop μ-loop
 blend-requires c κs =
     let i = c .before .before .before in
-    (at-start i .pre .0 .1, rows i, i .before .loop .inv .2)
+    (i .before .loop .inv .few, rw (part-is i) (row-read (i .before .loop .inv) (i .loop-test .taken)), i .before .loop .inv .wide)
 
 add-stop : tie.Need-add-stop Inv-loop μ-loop
 add-stop c = omega (arith, room (turn c))
@@ -150,7 +124,8 @@ refine-row-requires : tie.Need-refine-row-requires Inv-loop μ-loop
 refine-row-requires c κs =
     let b = c .before .before in
     let i = turn b in
-    (at-start i .pre .0 .1, simp (length-take, length-drop) (omega (arith, room i)), sum-size (m i) (t i) (part i) (i .before .loop .sums) (sums b) (b .blend .ensures) (rows i))
+    let p = i .before .loop .inv in
+    (p .few, part-room p (i .loop-test .taken), row-sums p (i .loop-test .taken) (sums-are b))
 
 add-t : tie.Need-add-t Inv-loop μ-loop
 add-t c = omega arith
@@ -161,22 +136,14 @@ loop-less c = omega arith
 loop-again : tie.Need-loop-again Inv-loop μ-loop
 loop-again c =
     let b = c .before .before .before .before in
-    let i = turn b in (
-      omega arith,
-      omega arith,
-      sums-length (m i) (t i) (part i) (i .before .loop .sums) (sums b) (b .blend .ensures) (omega arith) ∙ i .before .loop .inv .2,
-      stored-part (i .before .loop .inv .3) (2 * m i + 3) (i .before .loop .inv .1) (omega arith) (omega (arith, room i))
-          (c .before .refine-row .ensures ∙ ap (λ r. over r (take (i .before .loop .start + (2 * m i + 3) - i .before .loop .start) (drop (i .before .loop .start) (i .before .loop .whole)))) (row-is b)),
-    )
+    let i = turn b in
+    next-row (i .before .loop .inv) (i .loop-test .taken) (sums-are b) (c .before .refine-row .ensures)
 
 same-length : tie.Need-same-length Inv-loop μ-loop
-same-length c = c .before .loop .inv .3 .long
+same-length c = c .before .loop .inv .partly .long
 
 returns : tie.Need-returns Inv-loop μ-loop
-returns c =
-    let l = c .before in
-    let a = l .before .args in
-    finished (l .loop .inv .3) refl (rows-stored (a .m) (a .n) (l .loop .t) _ (area (a .from) (controls (a .m) (a .n)) (a .whole .now)) (omega arith) refl)
+returns c = every-row (c .before .loop .inv) (omega arith)
 
 pub refine-at-spec : {M : Type 1} → statement M
 refine-at-spec =

@@ -5,7 +5,7 @@ use Prim.Native.Nat.{ℕ, _*_}
 use native.Mathlib.Nat.{le-trans}
 use borrow.Author.Needs.{needs}
 use lib.IntN.{ℤ, pos, _+ℤ_, _-ℤ_, _*ℤ_}
-use Rattle.algebra.specs.Solver.{var, con, _⊕_, _⊗_, _⊖_, solve}
+use Rattle.algebra.specs.Solver.{var, con, _⊞_, _⊠_, _⊟_, solve}
 use Rattle.machine.specs.Held.{Held, Number, number, literal, cast, read, plus, minus, times, fits, small}
 use Rattle.rules.specs.Surface.{square, cube, numerator}
 use Rattle.rules.specs.Laws.Basis.{quoted}
@@ -82,14 +82,14 @@ unfolding numerator square cube quoted
 second-is U a =
     let u = var 0 in
     let t = var 1 in
-    solve (con (pos 3) ⊗ (t ⊗ t ⊗ t) ⊖ con (pos 6) ⊗ t ⊗ t ⊗ u ⊕ con (pos 4) ⊗ (u ⊗ u ⊗ u)) (quoted u t 1) (U ∷ a ∷ []) tt
+    solve (con (pos 3) ⊠ (t ⊠ t ⊠ t) ⊟ con (pos 6) ⊠ t ⊠ t ⊠ u ⊞ con (pos 4) ⊠ (u ⊠ u ⊠ u)) (quoted u t 1) (U ∷ a ∷ []) tt
 
 third-is : (U a : ℤ) → pos 6 *ℤ cube U -ℤ numerator U a 0 -ℤ numerator U a 1 -ℤ numerator U a 3 ≡ numerator U a 2
 unfolding numerator square cube quoted
 third-is U a =
     let u = var 0 in
     let q = quoted u (var 1) in
-    solve (con (pos 6) ⊗ (u ⊗ u ⊗ u) ⊖ q 0 ⊖ q 1 ⊖ q 3) (q 2) (U ∷ a ∷ []) tt
+    solve (con (pos 6) ⊠ (u ⊠ u ⊠ u) ⊟ q 0 ⊟ q 1 ⊟ q 3) (q 2) (U ∷ a ∷ []) tt
 
 -- ---- what it returns
 

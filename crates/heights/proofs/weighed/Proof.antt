@@ -6,6 +6,7 @@ use lib.IntN.{ℤ, natAbs, _*ℤ_}
 use mir.Syntax.{w64}
 use mir.Val.{toZ, ofZ}
 use Rattle.machine.specs.Held.{Held, Number, number, itself, read, read-below, below, plus, times, fits, small}
+use Rattle.rules.specs.Surface.{weighted}
 use Rattle.heights.proofs.weighed.Statement.{statement}
 use Rattle.heights.proofs.weighed.Tie as tie
 
@@ -73,6 +74,7 @@ add-result-3 : tie.Need-add-result-3
 add-result-3 c = fits tt (below most (omega arith) (four (start4 c) .held))
 
 returns : tie.Need-returns
+unfolding weighted
 returns c =
     let answer = below most (omega arith) (four (start4 c) .held) in
     (read tt answer .is, small most tt (read tt answer))

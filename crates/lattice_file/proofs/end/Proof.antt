@@ -11,9 +11,9 @@ use lib.ListN.{length}
 use Rattle.rules.specs.Answers.{require, _then_, field, trailing}
 use Rattle.rules.specs.Bytes.{numberAt, recordCheck}
 use Rattle.rules.specs.Laws.Bytes.{record-fits}
-use Rattle.rules.specs.Laws.Checks.{then-none}
+use Rattle.rules.specs.Laws.Checks.{then-none, then-some}
 use Rattle.rules.specs.LatticeFile.{LE, rowStart, endCheck}
-use Rattle.lattice_file.proofs.Scan.{told, refuses}
+use Rattle.answers.specs.Cause.{found}
 use Rattle.lattice_file.proofs.end.Statement.{statement}
 use Rattle.lattice_file.proofs.end.Tie as tie
 
@@ -30,7 +30,7 @@ module _ (file : List ℕ) (m n s k : ℕ) (start : s ≡ rowStart m (n + 3)) wh
 
 complete : (c : tie.After-enum-told) → recordCheck LE (c .before .before .before .before .before .args .file .now) (c .before .before .before .row-start .result) 4 ≡ none
 unfolding LE
-complete c = told _ _ _ (c .before .before .record .ensures) (c .enum-told .given .1)
+complete c = found (c .before .before .record .ensures) (c .enum-told .given .1)
 
 add-row-start : tie.Need-add-row-start
 add-row-start c = search needs
@@ -48,7 +48,7 @@ returns : tie.Need-returns
 unfolding LE
 returns c =
     let p = c .before .before .before in
-    sym (whole _ _ _ _ 0 (p .before .row-start .ensures .0) ∙ refuses _ _ _ (told _ _ _ (p .record .ensures) (c .before .v .given .1)))
+    sym (whole _ _ _ _ 0 (p .before .row-start .ensures .0) ∙ then-some _ _ (found (p .record .ensures) (c .before .v .given .1)))
 
 enum-told : tie.Need-enum-told
 enum-told c = search needs

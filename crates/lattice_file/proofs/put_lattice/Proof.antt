@@ -6,9 +6,9 @@ use native.Mathlib.Omega.{arith}
 use borrow.Author.Needs.{needs}
 use lib.IntN.{ℤ}
 use lib.ListN.{length, length-append}
-use Rattle.algebra.specs.Table.{joined, over, laid, laid-front, laid-over}
+use Rattle.algebra.specs.Table.{joined, over, laid, laid-front, laid-over, length-joined}
 use Rattle.rules.specs.Bytes.{bytesOf}
-use Rattle.rules.specs.Laws.Bytes.{length-bytesOf, length-joined}
+use Rattle.rules.specs.Laws.Bytes.{length-bytesOf}
 use Rattle.rules.specs.LatticeFile.{LH, LE, rowRecord, latticeFile, rowLength, rowStart, latticeFileLength}
 use Rattle.lattice_file.proofs.Places.{row-long}
 use Rattle.lattice_file.proofs.put_lattice.Statement.{statement}

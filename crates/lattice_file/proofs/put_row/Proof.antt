@@ -6,12 +6,11 @@ use native.Mathlib.Omega.{arith}
 use borrow.Author.Needs.{needs}
 use lib.IntN.{ℤ, pos}
 use lib.ListN.{length, take, drop}
-use Rattle.algebra.specs.Table.{joined, laid, area, getD-area}
+use Rattle.algebra.specs.Table.{joined, laid, area, getD-area, joined-same, laid-after}
 use Rattle.rules.specs.Grid.{control}
 use Rattle.rules.specs.Bytes.{bytesOf, valueBytes}
 use Rattle.rules.specs.Laws.Bytes.{length-bytesOf}
 use Rattle.rules.specs.LatticeFile.{LR, rowRecord, rowLength, rowStart}
-use Rattle.codec.specs.Laid.{joined-same, laid-next}
 use Rattle.lattice_file.specs.Parts.{bytesOfValues}
 use Rattle.lattice_file.proofs.Places.{gap, part-long}
 use Rattle.lattice_file.proofs.put_row.Statement.{statement}
@@ -32,8 +31,8 @@ unfolding rowRecord LR
 record-laid lattice values d e f g m r s start h is p q v =
     rw (← start, ← is)
     (v
-    ∙ ap (laid (s + 4) values) (q ∙ ap (laid (s + 2) (bytesOf 2 r)) p ∙ laid-next s (s + 2) LR (bytesOf 2 r) d h refl)
-    ∙ laid-next s (s + 4) (LR ++ bytesOf 2 r) values d h (omega (arith, length-bytesOf 2 r)))
+    ∙ ap (laid (s + 4) values) (q ∙ ap (laid (s + 2) (bytesOf 2 r)) p ∙ laid-after s (s + 2) LR (bytesOf 2 r) d h refl)
+    ∙ laid-after s (s + 4) (LR ++ bytesOf 2 r) values d h (omega (arith, length-bytesOf 2 r)))
 
 row-start-requires : tie.Need-row-start-requires
 row-start-requires c κs = search needs

@@ -5,9 +5,8 @@ use Prim.Native.Nat.{ℕ, _+_, _-_, _≤_}
 use native.Mathlib.Omega.{arith}
 use lib.IntN.{ℤ}
 use lib.ListN.{length}
-use Rattle.algebra.specs.Table.{joined, laid, laid-none}
+use Rattle.algebra.specs.Table.{joined, laid, laid-none, laid-joined}
 use Rattle.rules.specs.LatticeFile.{rowRecord, rowLength, rowStart}
-use Rattle.codec.specs.Laid.{laid-joined}
 use Rattle.lattice_file.proofs.Places.{lattice-row, file-row, row-long}
 use Rattle.lattice_file.proofs.put_rows.Statement.{statement}
 use Rattle.lattice_file.proofs.put_rows.Tie as tie

@@ -5,11 +5,10 @@ use Prim.Native.Nat.{ℕ, _+_, _*_, _-_, _≤_}
 use native.Mathlib.Omega.{arith}
 use lib.IntN.{ℤ, pos}
 use lib.ListN.{length, getD}
-use Rattle.algebra.specs.Table.{joined, laid, laid-none}
+use Rattle.algebra.specs.Table.{joined, laid, laid-none, laid-joined}
 use Rattle.machine.specs.Tests.{plain}
 use Rattle.rules.specs.Bytes.{valueBytes}
 use Rattle.rules.specs.Laws.Bytes.{length-valueBytes}
-use Rattle.codec.specs.Laid.{laid-joined}
 use Rattle.lattice_file.specs.Parts.{bytesOfValues}
 use Rattle.lattice_file.proofs.put_values.Statement.{statement}
 use Rattle.lattice_file.proofs.put_values.Tie as tie

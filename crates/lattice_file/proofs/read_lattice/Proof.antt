@@ -12,18 +12,18 @@ use lib.IntN.{ℤ}
 use lib.ListN.{length}
 use Rattle.algebra.specs.Table.{over}
 use Rattle.rules.specs.Grid.{controls}
-use Rattle.rules.specs.Answers.{Refusal, require, _then_, firstOf, short, Answer, accepted}
-use Rattle.rules.specs.Calls.{Cells}
-use Rattle.rules.specs.LatticeFile.{LH, LE, fileM, fileN, fileLattice, rowStart, headCheck, rowCheck, endCheck}
-use Rattle.rules.specs.LatticeFile.{latticeFileCheck, readLatticeCheck, readLatticeAnswer, readLatticeLeaves}
+use Rattle.rules.specs.Answers.{Refusal, require, _then_, firstOf, short, Answer, accepted, outcome}
+use Rattle.rules.specs.Calls.{CellCounts}
+use Rattle.rules.specs.LatticeFile.{LH, LE, fileM, fileN, fileLattice, rowStart, latticeHeadCheck, rowCheck, endCheck}
+use Rattle.rules.specs.LatticeFile.{latticeFileCheck, readLatticeCheck, readLatticeCall}
 use Rattle.rules.specs.Laws.Bytes.{record-fits}
-use Rattle.rules.specs.Laws.Checks.{required, then-first, then-rest, then-none, within-bounds}
+use Rattle.rules.specs.Laws.Checks.{required, then-first, then-rest, then-none, within-bounds, then-some, call-refused, call-accepted}
+use Rattle.answers.specs.Cause.{found}
 use Rattle.lattice_file.specs.Parts.{latticeFrom}
-use Rattle.lattice_file.proofs.Scan.{told, refuses, refusal, acceptance}
 use Rattle.lattice_file.proofs.read_lattice.Statement.{statement}
 use Rattle.lattice_file.proofs.read_lattice.Tie as tie
 
-abbrev told-cells : ℕ → ℕ → Answer Cells
+abbrev told-cells : ℕ → ℕ → Answer CellCounts
 told-cells m n = accepted (record { m = m; n = n })
 
 -- ---- what the head and the end have shown
@@ -33,8 +33,8 @@ record Headed (file : List ℕ) : Type 0 where
   across : fileM file ≤ 512
   up : fileN file ≤ 512
 
-headed : (file : List ℕ) → headCheck file ≡ none → Headed file
-unfolding headCheck LH
+headed : (file : List ℕ) → latticeHeadCheck file ≡ none → Headed file
+unfolding latticeHeadCheck LH
 headed file e =
     let counts = then-rest _ _ e in record {
       long = record-fits LH refl file 0 6 (then-first _ _ e);
@@ -48,18 +48,18 @@ ended m n file e = omega (arith, record-fits LE refl file (rowStart m (n + 3)) 4
 
 -- ---- the checks after the head
 
-module _ (file : List ℕ) (output : List ℤ) (m n : ℕ) (across : m ≡ fileM file) (up : n ≡ fileN file) (head : headCheck file ≡ none) where
+module _ (file : List ℕ) (output : List ℤ) (m n : ℕ) (across : m ≡ fileM file) (up : n ≡ fileN file) (head : latticeHeadCheck file ≡ none) where
   body : latticeFileCheck file ≡ (firstOf (n + 3) (rowCheck m file) then endCheck m n file)
   unfolding latticeFileCheck
-  body = rw (across, up) (then-none (headCheck file) _ head)
+  body = rw (across, up) (then-none (latticeHeadCheck file) _ head)
 
   bad-row : (r : Refusal) → firstOf (n + 3) (rowCheck m file) ≡ some r → readLatticeCheck file output ≡ some r
   unfolding readLatticeCheck
-  bad-row r e = refuses _ _ r (body ∙ refuses _ _ r e)
+  bad-row r e = then-some _ _ (body ∙ then-some _ _ e)
 
   bad-end : (r : Refusal) → firstOf (n + 3) (rowCheck m file) ≡ none → endCheck m n file ≡ some r → readLatticeCheck file output ≡ some r
   unfolding readLatticeCheck
-  bad-end r rows e = refuses _ _ r (body ∙ then-none _ _ rows ∙ e)
+  bad-end r rows e = then-some _ _ (body ∙ then-none _ _ rows ∙ e)
 
   room : firstOf (n + 3) (rowCheck m file) ≡ none → endCheck m n file ≡ none → readLatticeCheck file output ≡ require (leb (controls m n) (length output)) short
   unfolding readLatticeCheck
@@ -70,8 +70,8 @@ module _ (file : List ℕ) (output : List ℤ) (m n : ℕ) (across : m ≡ fileM
 abbrev entry : tie.After-enum-told → tie.Start
 entry c = c .before .before .before .before
 
-head : (c : tie.After-enum-told) → headCheck (entry c .args .file .now) ≡ none
-head c = told _ _ _ (c .before .before .head .ensures) (c .enum-told .given .1)
+head : (c : tie.After-enum-told) → latticeHeadCheck (entry c .args .file .now) ≡ none
+head c = found (c .before .before .head .ensures) (c .enum-told .given .1)
 
 abbrev file : tie.After-u16-at2 → List ℕ
 file c = entry (c .before .before) .args .file .now
@@ -88,13 +88,13 @@ bounds : (c : tie.After-u16-at2) → (c .before .u16-at .result ≤ 512) × (c .
 bounds c = let h = headed (file c) (head (c .before .before)) in (rw (across c) (h .across), rw (up c) (h .up))
 
 rows : (c : tie.After-enum-told2) → firstOf (c .before .before .before .u16-at2 .result + 3) (rowCheck (c .before .before .before .before .u16-at .result) (file (c .before .before .before))) ≡ none
-rows c = told _ _ _ (c .before .before .rows .ensures) (c .enum-told2 .given .1)
+rows c = found (c .before .before .rows .ensures) (c .enum-told2 .given .1)
 
 abbrev counts : tie.After-enum-told3 → tie.After-u16-at2
 counts c = c .before .before .before .before .before .before
 
 end : (c : tie.After-enum-told3) → endCheck (counts c .before .u16-at .result) (counts c .u16-at2 .result) (file (counts c)) ≡ none
-end c = told _ _ _ (c .before .before .end .ensures) (c .enum-told3 .given .1)
+end c = found (c .before .before .end .ensures) (c .enum-told3 .given .1)
 
 judged : (c : tie.After-enum-told3)
     → readLatticeCheck (file (counts c)) (entry (counts c .before .before) .args .output .now)
@@ -110,8 +110,8 @@ enum-known-v : tie.Need-enum-known-v
 enum-known-v c = search needs
 
 returns : tie.Need-returns
-unfolding latticeFileCheck readLatticeCheck readLatticeAnswer readLatticeLeaves
-returns c = refusal _ _ _ _ _ (refuses _ _ _ (refuses _ _ _ (told _ _ _ (c .before .before .before .head .ensures) (c .before .v .given .1))))
+unfolding latticeFileCheck readLatticeCheck readLatticeCall
+returns c = call-refused _ _ _ _ _ (then-some _ _ (then-some _ _ (found (c .before .before .before .head .ensures) (c .before .v .given .1))))
 
 enum-told : tie.Need-enum-told
 enum-told c = search needs
@@ -135,11 +135,11 @@ enum-known-v-2 : tie.Need-enum-known-v-2
 enum-known-v-2 c = search needs
 
 returns-2 : tie.Need-returns-2
-unfolding readLatticeAnswer readLatticeLeaves
+unfolding readLatticeCall
 returns-2 c =
     let call = c .before .before .before in
     let p = call .before in
-    refusal _ _ _ _ _ (bad-row _ _ _ _ (across p) (up p) (head (p .before .before)) _ (told _ _ _ (call .rows .ensures) (c .before .v2 .given .1)))
+    call-refused _ _ _ _ _ (bad-row _ _ _ _ (across p) (up p) (head (p .before .before)) _ (found (call .rows .ensures) (c .before .v2 .given .1)))
 
 enum-told-2 : tie.Need-enum-told-2
 enum-told-2 c = search needs
@@ -151,12 +151,12 @@ enum-known-v-3 : tie.Need-enum-known-v-3
 enum-known-v-3 c = search needs
 
 returns-3 : tie.Need-returns-3
-unfolding readLatticeAnswer readLatticeLeaves
+unfolding readLatticeCall
 returns-3 c =
     let call = c .before .before .before in
     let p = call .before .before .before .before in
-    refusal _ _ _ _ _
-    (bad-end _ _ _ _ (across p) (up p) (head (p .before .before)) _ (rows (call .before)) (told _ _ _ (call .end .ensures) (c .before .v3 .given .1)))
+    call-refused _ _ _ _ _
+    (bad-end _ _ _ _ (across p) (up p) (head (p .before .before)) _ (rows (call .before)) (found (call .end .ensures) (c .before .v3 .given .1)))
 
 enum-told-3 : tie.Need-enum-told-3
 enum-told-3 c = search needs
@@ -165,10 +165,10 @@ count-requires : tie.Need-count-requires
 count-requires c κs = bounds (counts c)
 
 returns-4 : tie.Need-returns-4
-unfolding readLatticeAnswer readLatticeLeaves require
+unfolding readLatticeCall require
 returns-4 c =
     let p = c .before .before in
-    refusal _ _ _ _ _ (judged p ∙ rw (lt-leb (controls (counts p .before .u16-at .result) (counts p .u16-at2 .result)) (length (entry (counts p .before .before) .args .output .now)) (omega (arith, c .if1 .taken, c .before .count .ensures))))
+    call-refused _ _ _ _ _ (judged p ∙ rw (lt-leb (controls (counts p .before .u16-at .result) (counts p .u16-at2 .result)) (length (entry (counts p .before .before) .args .output .now)) (omega (arith, c .if1 .taken, c .before .count .ensures))))
 
 copy-requires : tie.Need-copy-requires
 copy-requires c κs =
@@ -180,17 +180,15 @@ same-length : tie.Need-same-length
 same-length c = search needs
 
 returns-5 : tie.Need-returns-5
-unfolding readLatticeAnswer readLatticeLeaves fileLattice require
+unfolding readLatticeCall fileLattice require
 returns-5 c =
     let call = c .before in
     let p = call .before .before .before .before in
     let q = counts p in
     let output = entry (q .before .before) .args .output .now in
     let fits = le-leb (controls (q .before .u16-at .result) (q .u16-at2 .result)) (length output) (omega (arith, call .before .before .if1 .left, call .before .before .before .count .ensures)) in
-    let fine = acceptance _ _ _ _ (judged p ∙ rw fits) in (
-      ap₂ told-cells (across q) (up q) ∙ fine .0,
-      call .copy .ensures ∙ ap₂ (λ m n. over (latticeFrom m n (file q)) output) (across q) (up q) ∙ fine .1,
-    )
+    ap₂ outcome (ap₂ told-cells (across q) (up q)) (call .copy .ensures ∙ ap₂ (λ m n. over (latticeFrom m n (file q)) output) (across q) (up q))
+    ∙ call-accepted _ _ _ _ (judged p ∙ rw fits)
 
 pub read-lattice-spec : {M : Type 1} → statement M
 read-lattice-spec =

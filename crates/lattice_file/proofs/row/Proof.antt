@@ -10,10 +10,10 @@ use lib.Dec.{eqb}
 use Rattle.rules.specs.Answers.{require, _then_, firstOf, field}
 use Rattle.rules.specs.Bytes.{numberAt, recordCheck}
 use Rattle.rules.specs.Laws.Bytes.{record-fits}
-use Rattle.rules.specs.Laws.Checks.{then-none}
+use Rattle.rules.specs.Laws.Checks.{then-none, then-some}
 use Rattle.rules.specs.LatticeFile.{LR, rowLength, rowStart, rowCheck}
+use Rattle.answers.specs.Cause.{found}
 use Rattle.lattice_file.specs.Parts.{valueCheck}
-use Rattle.lattice_file.proofs.Scan.{told, refuses}
 use Rattle.lattice_file.proofs.row.Statement.{statement}
 use Rattle.lattice_file.proofs.row.Tie as tie
 
@@ -30,7 +30,7 @@ module _ (file : List ℕ) (m r s k : ℕ) (start : s ≡ rowStart m r) where
 
 complete : (c : tie.After-enum-told) → recordCheck LR (c .before .before .before .before .before .args .file .now) (c .before .before .before .row-start .result) (4 + 8 * (c .before .before .before .before .before .args .m + 3)) ≡ none
 unfolding LR
-complete c = told _ _ _ (c .before .before .record .ensures) (c .enum-told .given .1)
+complete c = found (c .before .before .record .ensures) (c .enum-told .given .1)
 
 row-start-requires : tie.Need-row-start-requires
 row-start-requires c κs = search needs
@@ -54,7 +54,7 @@ returns : tie.Need-returns
 unfolding LR
 returns c =
     let p = c .before .before .before in
-    sym (whole _ _ _ _ 0 (p .before .row-start .ensures .0) ∙ refuses _ _ _ (told _ _ _ (p .record .ensures) (c .before .v .given .1)))
+    sym (whole _ _ _ _ 0 (p .before .row-start .ensures .0) ∙ then-some _ _ (found (p .record .ensures) (c .before .v .given .1)))
 
 enum-told : tie.Need-enum-told
 enum-told c = search needs

@@ -6,8 +6,8 @@ use native.Mathlib.Omega.{arith}
 use borrow.Author.Needs.{needs}
 use Rattle.rules.specs.Answers.{firstOf}
 use Rattle.rules.specs.LatticeFile.{rowCheck}
-use Rattle.rules.specs.Laws.Checks.{firstOf-at}
-use Rattle.lattice_file.proofs.Scan.{told, firstOf-more}
+use Rattle.rules.specs.Laws.Checks.{firstOf-at, firstOf-more}
+use Rattle.answers.specs.Cause.{found}
 use Rattle.lattice_file.proofs.rows.Statement.{statement}
 use Rattle.lattice_file.proofs.rows.Tie as tie
 
@@ -34,7 +34,7 @@ returns : tie.Need-returns Inv-loop μ-loop
 returns c =
     let call = c .before .before .before in
     let p = call .before .before in
-    sym (firstOf-at _ (p .loop .r) _ _ (p .loop .inv .1) (call .before .loop-test .taken) (told _ _ _ (call .row .ensures) (c .before .v .given .1)))
+    sym (firstOf-at _ (p .loop .r) _ _ (p .loop .inv .1) (call .before .loop-test .taken) (found (call .row .ensures) (c .before .v .given .1)))
 
 enum-told : tie.Need-enum-told Inv-loop μ-loop
 enum-told c = search needs
@@ -49,7 +49,7 @@ loop-again : tie.Need-loop-again Inv-loop μ-loop
 loop-again c =
     let call = c .before .before in
     let p = call .before .before in
-    (omega arith, firstOf-more (p .loop .r) _ (p .loop .inv .1) (told _ _ _ (call .row .ensures) (c .enum-told .given .1)))
+    (omega arith, firstOf-more (p .loop .r) _ (p .loop .inv .1) (found (call .row .ensures) (c .enum-told .given .1)))
 
 returns-2 : tie.Need-returns-2 Inv-loop μ-loop
 returns-2 c =

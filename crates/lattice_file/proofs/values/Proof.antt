@@ -15,9 +15,8 @@ use Rattle.machine.specs.Tests.{plain}
 use Rattle.rules.specs.Grid.{inRange}
 use Rattle.rules.specs.Answers.{require, firstOf, field}
 use Rattle.rules.specs.Bytes.{valueAt}
-use Rattle.rules.specs.Laws.Checks.{firstOf-at}
+use Rattle.rules.specs.Laws.Checks.{firstOf-at, firstOf-more}
 use Rattle.lattice_file.specs.Parts.{valueCheck}
-use Rattle.lattice_file.proofs.Scan.{firstOf-more}
 use Rattle.lattice_file.proofs.values.Statement.{statement}
 use Rattle.lattice_file.proofs.values.Tie as tie
 

@@ -1,5 +1,5 @@
 -- `lattice_file::write_lattice` meets its contract: the checks in their order, each refusal leaving the output, and then the file.
-use mathlib.Core.Path.{_≡_, ap, _∙_}
+use mathlib.Core.Path.{_≡_, ap, ap₂, _∙_}
 use mathlib.Core.Bool.{_&&_}
 use mathlib.Core.List.{List}
 use mathlib.Core.Option.{none}
@@ -11,12 +11,12 @@ use lib.Dec.{leb}
 use lib.IntN.{ℤ}
 use lib.ListN.{length}
 use Rattle.rules.specs.Grid.{controls}
-use Rattle.rules.specs.Answers.{require, _then_, short, accepted}
+use Rattle.rules.specs.Answers.{require, _then_, short, accepted, outcome}
 use Rattle.rules.specs.Calls.{cellsCheck, latticeCheck}
-use Rattle.rules.specs.LatticeFile.{latticeFileLength, writeLatticeCheck, writeLatticeAnswer, writeLatticeLeaves}
-use Rattle.rules.specs.Laws.Checks.{then-none}
-use Rattle.checks.specs.Passed.{cells-passed}
-use Rattle.lattice_file.proofs.Scan.{told, refuses, refusal, acceptance}
+use Rattle.rules.specs.LatticeFile.{latticeFileLength, writeLatticeCheck, writeLatticeCall}
+use Rattle.rules.specs.Laws.Checks.{then-none, then-some, call-refused, call-accepted}
+use Rattle.rules.specs.Laws.Passed.{cells-passed}
+use Rattle.answers.specs.Cause.{found}
 use Rattle.lattice_file.proofs.write_lattice.Statement.{statement}
 use Rattle.lattice_file.proofs.write_lattice.Tie as tie
 
@@ -39,7 +39,7 @@ abbrev entry : tie.After-enum-told → tie.Start
 entry c = c .before .before .before .before
 
 cells : (c : tie.After-enum-told) → cellsCheck 512 (entry c .args .m) (entry c .args .n) ≡ none
-cells c = told _ _ _ (c .before .before .cells .ensures) (c .enum-told .given .1)
+cells c = found (c .before .before .cells .ensures) (c .enum-told .given .1)
 
 bounds : (c : tie.After-enum-told) → (entry c .args .m ≤ 512) × (entry c .args .n ≤ 512)
 bounds c = let p = cells-passed _ _ _ (cells c) in (p .1, p .3)
@@ -68,8 +68,8 @@ enum-known-v : tie.Need-enum-known-v
 enum-known-v c = search needs
 
 returns : tie.Need-returns
-unfolding writeLatticeCheck writeLatticeAnswer writeLatticeLeaves
-returns c = refusal _ _ _ _ _ (refuses _ _ _ (told _ _ _ (c .before .before .before .cells .ensures) (c .before .v .given .1)))
+unfolding writeLatticeCheck writeLatticeCall
+returns c = call-refused _ _ _ _ _ (then-some _ _ (found (c .before .before .before .cells .ensures) (c .before .v .given .1)))
 
 enum-told : tie.Need-enum-told
 enum-told c = search needs
@@ -78,11 +78,11 @@ count-requires : tie.Need-count-requires
 count-requires c κs = bounds c
 
 returns-2 : tie.Need-returns-2
-unfolding writeLatticeAnswer writeLatticeLeaves require _then_
+unfolding writeLatticeCall require _then_
 returns-2 c =
     let p = c .before .before in
     let a = p .before .before .before .before .args in
-    refusal _ _ _ _ _ (rest (a .m) (a .n) (a .lattice .now) (a .output .now) (cells p) ∙ rw (lt-leb (controls (a .m) (a .n)) (length (a .lattice .now)) (omega arith)))
+    call-refused _ _ _ _ _ (rest (a .m) (a .n) (a .lattice .now) (a .output .now) (cells p) ∙ rw (lt-leb (controls (a .m) (a .n)) (length (a .lattice .now)) (omega arith)))
 
 add-row-start : tie.Need-add-row-start
 add-row-start c = omega (arith, bounds (c .before .before))
@@ -94,11 +94,11 @@ add-if2 : tie.Need-add-if2
 add-if2 c = search needs
 
 returns-3 : tie.Need-returns-3
-unfolding writeLatticeAnswer writeLatticeLeaves require _then_ latticeFileLength
+unfolding writeLatticeCall require _then_ latticeFileLength
 returns-3 c =
     let p = c .before .before .before .before in
     let a = entry p .args in
-    refusal _ _ _ _ _
+    call-refused _ _ _ _ _
     (rest (a .m) (a .n) (a .lattice .now) (a .output .now) (cells p)
     ∙ rw (le-leb (controls (a .m) (a .n)) (length (a .lattice .now)) (omega arith), lt-leb (latticeFileLength (a .m) (a .n)) (length (a .output .now)) (omega arith)))
 
@@ -109,10 +109,10 @@ enum-known-v-2 : tie.Need-enum-known-v-2
 enum-known-v-2 c = search needs
 
 returns-4 : tie.Need-returns-4
-unfolding writeLatticeAnswer writeLatticeLeaves
+unfolding writeLatticeCall
 returns-4 c =
     let call = c .before .before .before in
-    refusal _ _ _ _ _ (judged (call .before) ∙ told _ _ _ (call .lattice .ensures) (c .before .v2 .given .1))
+    call-refused _ _ _ _ _ (judged (call .before) ∙ found (call .lattice .ensures) (c .before .v2 .given .1))
 
 enum-told-2 : tie.Need-enum-told-2
 enum-told-2 c = search needs
@@ -127,13 +127,13 @@ same-length : tie.Need-same-length
 same-length c = search needs
 
 returns-5 : tie.Need-returns-5
-unfolding writeLatticeAnswer writeLatticeLeaves
+unfolding writeLatticeCall
 returns-5 c =
     let put = c .before .before in
     let told-fine = put .before .before in
     let call = told-fine .before .before in
-    let fine = acceptance _ _ _ _ (judged (call .before) ∙ told _ _ _ (call .lattice .ensures) (told-fine .enum-told2 .given .1)) in
-    (ap accepted (put .put-lattice .ensures .0) ∙ fine .0, put .put-lattice .ensures .1 ∙ fine .1)
+    ap₂ outcome (ap accepted (put .put-lattice .ensures .0)) (put .put-lattice .ensures .1)
+    ∙ call-accepted _ _ _ _ (judged (call .before) ∙ found (call .lattice .ensures) (told-fine .enum-told2 .given .1))
 
 pub write-lattice-spec : {M : Type 1} → statement M
 write-lattice-spec =

@@ -6,7 +6,8 @@ use mathlib.Core.List.{List}
 use native.Mathlib.Omega.{arith}
 use lib.Ieee.{Float}
 use Rattle.rules.specs.Level as rule
-use Rattle.level_fit.specs.Sums.{weightAt, row, rows, blockAdded}
+use Rattle.weights.specs.Block.{weightAt}
+use Rattle.level_fit.specs.Sums.{row, rows, blockAdded}
 use Rattle.level_fit.proofs.add_block.Statement.{statement}
 use Rattle.level_fit.proofs.add_block.Tie as tie
 

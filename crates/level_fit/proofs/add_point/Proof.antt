@@ -11,26 +11,22 @@ use mir.Syntax.{w64}
 use mir.ValLaws.{toZ-ofZ}
 use Rattle.algebra.specs.Table.{tabulate}
 use Rattle.rules.specs.Grid.{controls}
-use Rattle.rules.specs.Surface.{offset}
 use Rattle.rules.specs.Level as rule
 use Rattle.rules.specs.Laws.Basis.{offset-within}
 use Rattle.heights.specs.Reading.{Located}
 use Rattle.heights.specs.declared.Spot.{Spot}
-use Rattle.level_fit.specs.Sums.{Fitting, blockOf, weightAt, blockAdded, pointAdded}
+use Rattle.weights.specs.Block.{blockOf, weightAt, pointBlock}
+use Rattle.level_fit.specs.Sums.{Fitting, blockAdded, pointAdded}
 use Rattle.level_fit.proofs.Scatter.{placeOf, room, controls-most}
-use Rattle.level_fit.proofs.Weights.{block-same, entry-of-block}
 use Rattle.level_fit.proofs.add_point.Statement.{statement}
 use Rattle.level_fit.proofs.add_point.Tie as tie
 
 -- ---- with the position's cells and offsets at hand
 
+asked : (e : ℕ) {m x : ℕ} {at : Spot} → Located at (2 ^ e) m x → 0 < m → x ≤ 2 ^ e * m → at .offset ≤ 2 ^ e
+asked e {m} {x} l some inside = rw (l .offset-is) (offset-within (2 ^ e) m x (pow-pos e) some inside)
+
 module _ {m n e x y long : ℕ} (f : Fitting m n e x y long) {across up : Spot} (ax : Located across (2 ^ e) m x) (ay : Located up (2 ^ e) n y) where
-  across-asked : across .offset ≤ 2 ^ e
-  across-asked = rw (ax .offset-is) (offset-within (2 ^ e) m x (pow-pos e) (f .columns) (f .x-inside))
-
-  up-asked : up .offset ≤ 2 ^ e
-  up-asked = rw (ay .offset-is) (offset-within (2 ^ e) n y (pow-pos e) (f .rows) (f .y-inside))
-
   module _ (v : ℤ) where
     abbrev point : rule.Point
     point = record { x = x; y = y; z = v }
@@ -39,15 +35,13 @@ module _ {m n e x y long : ℕ} (f : Fitting m n e x y long) {across up : Spot} 
     place-is = rw (ax .cell-is, ay .cell-is)
 
     place-room : up .cell * (m + 3) + across .cell + (m + 3) + (m + 3) + (m + 3) + 4 ≤ controls m n
-    place-room = omega (arith, place-is, room (2 ^ e) m n point (f .columns) (f .rows))
+    place-room = omega (arith, place-is, room (2 ^ e) m n point (f .grid .m-some) (f .grid .n-some))
 
-    added : (b c : List Float) (w : List (List Float)) (z : Float) (sums : List Float)
+    added : {b c : List Float} {w : List (List Float)} {z : Float} {now : List Float} (sums : List Float)
         → b ≡ tabulate 4 (rule.basis (2 ^ e) (across .offset)) → c ≡ tabulate 4 (rule.basis (2 ^ e) (up .offset)) → w ≡ blockOf b c → z ≡ rule.float v
-        → blockAdded (weightAt w) z (m + 3) (controls m n) sums (up .cell * (m + 3) + across .cell) ≡ pointAdded (2 ^ e) m n point sums
-    unfolding pointAdded rule.weight
-    added b c w z sums eb ec ew ez =
-        rw (ew, eb, ec, ez, place-is, ax .offset-is, ay .offset-is)
-        (block-same (entry-of-block (rule.basis (2 ^ e) (offset (2 ^ e) m x)) (rule.basis (2 ^ e) (offset (2 ^ e) n y))) (rule.float v) (m + 3) (controls m n) sums (placeOf (2 ^ e) m n point))
+        → now ≡ blockAdded (weightAt w) z (m + 3) (controls m n) sums (up .cell * (m + 3) + across .cell) → now ≡ pointAdded (2 ^ e) m n point sums
+    unfolding pointAdded pointBlock
+    added sums eb ec ew ez g = rw (g, ew, eb, ec, ez, place-is, ax .offset-is, ay .offset-is)
 
 -- ---- the needs
 
@@ -60,26 +54,20 @@ module _ (c : tie.After-locate2) where
       omega (
         arith,
         place-room (start .pre) (c .before .locate .ensures) (c .locate2 .ensures) (start .args .z),
-        controls-most (start .args .m) (start .args .n) (start .pre .columns-most) (start .pre .rows-most),
+        controls-most (start .args .m) (start .args .n) (start .pre .grid .m-most) (start .pre .grid .n-most),
       )
 
-  offsets : (start .args .e ≤ 9) × (c .before .locate .result .offset ≤ 2 ^ start .args .e) × (c .locate2 .result .offset ≤ 2 ^ start .args .e)
-  offsets =
-      let across = c .before .locate .ensures in
-      let up = c .locate2 .ensures in
-      (start .pre .exponent, across-asked (start .pre) across up, up-asked (start .pre) across up)
-
 axis-requires : tie.Need-axis-requires
-axis-requires c κs = omega (arith, offsets c)
+axis-requires c κs = let p = start c .pre in (p .grid .e-most, asked _ (c .before .locate .ensures) (p .grid .m-some) (p .x-inside))
 
 axis-requires-2 : tie.Need-axis-requires-2
-axis-requires-2 c κs = omega (arith, offsets (c .before))
+axis-requires-2 c κs = let p = start (c .before) .pre in (p .grid .e-most, asked _ (c .before .locate2 .ensures) (p .grid .n-some) (p .y-inside))
 
 mul-count : tie.Need-mul-count
 unfolding controls
 mul-count c =
     let s = start (c .before .before .before) in
-    record { fits = omega (arith, controls-most (s .args .m) (s .args .n) (s .pre .columns-most) (s .pre .rows-most)) }
+    record { fits = omega (arith, controls-most (s .args .m) (s .args .n) (s .pre .grid .m-most) (s .pre .grid .n-most)) }
 
 mul-add-block : tie.Need-mul-add-block
 mul-add-block c = let l = c .before .before .before .before .before in record { fits = omega (arith, fits l) }
@@ -100,10 +88,8 @@ returns c =
     let z = d .before in
     let w = z .before .before .before .before in
     let l = w .before .before .before in
-    d .add-block .ensures
-    ∙ added (start l .pre) (l .before .locate .ensures) (l .locate2 .ensures) (start l .args .z)
-    _ _ _ _ (start l .args .sums .now)
-    (w .before .before .axis .ensures) (w .before .axis2 .ensures) (w .block .ensures) (z .nearest-i64-to-f64 .ensures ∙ ap rule.float (toZ-ofZ w64 (start l .args .z) (start l .fits .z)))
+    added (start l .pre) (l .before .locate .ensures) (l .locate2 .ensures) (start l .args .z) (start l .args .sums .now)
+    (w .before .before .axis .ensures) (w .before .axis2 .ensures) (w .block .ensures) (z .nearest-i64-to-f64 .ensures ∙ ap rule.float (toZ-ofZ w64 _ (start l .fits .z))) (d .add-block .ensures)
 
 pub add-point-spec : {M : Type 1} → statement M
 add-point-spec =

@@ -8,7 +8,8 @@ use native.Mathlib.Omega.{arith}
 use lib.Ieee.{Float}
 use Rattle.algebra.specs.Table.{tabulate, laid}
 use Rattle.rules.specs.Level as rule
-use Rattle.level_fit.specs.Sums.{weightAt, pairAt, row}
+use Rattle.weights.specs.Block.{weightAt}
+use Rattle.level_fit.specs.Sums.{pairAt, row}
 use Rattle.level_fit.proofs.add_row.Statement.{statement}
 use Rattle.level_fit.proofs.add_row.Tie as tie
 

@@ -1,88 +1,76 @@
--- `level_fit::gather` meets its contract. The loop's invariant: what the points that are left add to the sums now is what all points add to the cleared sums.
+-- `level_fit::gather` meets its contract. The loop's invariant: the sums now are those of the first i points.
 use Prim.Native.Nat.{ℕ, _+_, _-_, _*_, _^_, _≤_, _<_}
 use mathlib.Core.Path.{_≡_, refl, sym, ap, _∙_}
-use mathlib.Core.List.{List, _∷_}
+use mathlib.Core.List.{List, []}
 use native.Mathlib.Numerals.{add-one}
 use native.Mathlib.Omega.{arith}
-use lib.IntN.{ℤ, pos}
+use lib.IntN.{ℤ}
 use lib.Ieee.{Float}
-use lib.ListN.{length, getD, drop, drop-of-length-le}
-use lib.Seq.{drop-cons}
-use Rattle.algebra.specs.Table.{tabulate, over}
+use lib.ListN.{length}
+use Rattle.algebra.specs.Table.{tabulate, over, length-tabulate, over-over, tabulate-replicate}
 use Rattle.machine.specs.Tests.{plain}
 use Rattle.rules.specs.Grid.{controls}
-use Rattle.rules.specs.Fit.{pointsOf}
 use Rattle.rules.specs.Level as rule
-use Rattle.level_fit.specs.Sums.{Fitting, Fittable, pointAdded, pointsAdded}
-use Rattle.level_fit.proofs.Scatter.{controls-most, scattered}
+use Rattle.rules.specs.Fit.{Survey, survey, pointCount, pointAt, pointsOf}
+use Rattle.level_fit.specs.Sums.{Fitting, Fittable, pointAdded, sumTable}
+use Rattle.level_fit.specs.Level.{length-sums}
+use Rattle.level_fit.proofs.Scatter.{controls-most, none-gathered, one-more}
 use Rattle.level_fit.proofs.gather.Statement.{statement}
 use Rattle.level_fit.proofs.gather.Tie as tie
 
--- ---- the points from the i-th on
+-- the sums of the first i points, laid over a slice
+abbrev first : ℕ → ℕ → ℕ → Survey → ℕ → List Float → List Float
+first m n e s i d = over (sumTable (2 ^ e) m n (tabulate i (pointAt s))) d
 
-abbrev rest : List ℕ → List ℕ → List ℤ → ℕ → List rule.Point
-rest xs ys zs i = pointsOf (drop i xs) (drop i ys) (drop i zs)
+module _ {m n e : ℕ} {s : Survey} (f : Fittable m n e s) where
+  most : controls m n ≤ 265_225
+  most = controls-most m n (f .grid .m-most) (f .grid .n-most)
 
-ended : (U m n : ℕ) (xs ys : List ℕ) (zs : List ℤ) (i : ℕ) (sums : List Float) → length xs ≤ i → pointsAdded U m n (rest xs ys zs i) sums ≡ sums
-unfolding pointsOf pointsAdded
-ended U m n xs ys zs i sums h = rw (drop-of-length-le xs h)
+  fitting : (i long : ℕ) → i < pointCount s → 2 * controls m n ≤ long → Fitting m n e (pointAt s i .x) (pointAt s i .y) long
+  fitting i long h g = record { grid = f .grid; x-inside = f .x-inside i h; y-inside = f .y-inside i h; room = g }
 
-module _ {m n e : ℕ} {xs ys : List ℕ} {zs : List ℤ} (f : Fittable m n e xs ys zs) (i : ℕ) (h : i < length xs) where
-  one-more : rest xs ys zs i ≡ (record { x = getD xs i 0; y = getD ys i 0; z = getD zs i (pos 0) } ∷ rest xs ys zs (i + 1))
-  unfolding pointsOf
-  one-more =
-      let hy : i < length ys = omega (arith, f .as-many-y) in
-      let hz : i < length zs = omega (arith, f .as-many-z) in
-      rw (drop-cons xs i 0 h, drop-cons ys i 0 hy, drop-cons zs i (pos 0) hz, add-one i)
+  next : (i : ℕ) (d : List Float) {sums now : List Float} {v : ℤ} → 2 * controls m n ≤ length d → sums ≡ first m n e s i d → v ≡ pointAt s i .z
+      → now ≡ pointAdded (2 ^ e) m n (record { x = pointAt s i .x; y = pointAt s i .y; z = v }) sums → now ≡ first m n e s (i + 1) d
+  unfolding tabulate
+  next i d long is z g =
+      rw (g, is, z, add-one i) (one-more (2 ^ e) m n (tabulate i (pointAt s)) (pointAt s i) d (f .grid .m-some) (f .grid .n-some) long)
 
-  next : (sums now : List Float) (v : ℤ) → v ≡ getD zs i (pos 0) → now ≡ pointAdded (2 ^ e) m n (record { x = getD xs i 0; y = getD ys i 0; z = v }) sums
-      → pointsAdded (2 ^ e) m n (rest xs ys zs (i + 1)) now ≡ pointsAdded (2 ^ e) m n (rest xs ys zs i) sums
-  unfolding pointsAdded
-  next sums now v k g = rw (g, k, one-more)
+-- where the loop begins the sums are cleared
+module _ (m n e : ℕ) (d : List Float) {cleared : List Float} (is : cleared ≡ over (tabulate (2 * controls m n) (λ i. rule.zero64)) d) where
+  -- a table of sums hides them
+  hidden : (ps : List rule.Point) → over (sumTable (2 ^ e) m n ps) cleared ≡ over (sumTable (2 ^ e) m n ps) d
+  hidden ps = ap (over (sumTable (2 ^ e) m n ps)) is ∙ over-over _ _ d (length-sums (2 ^ e) m n ps ∙ sym (length-tabulate (2 * controls m n) _))
 
-  fitting : (long : ℕ) → 2 * controls m n ≤ long → Fitting m n e (getD xs i 0) (getD ys i 0) long
-  fitting long g =
-      record {
-        columns = f .columns;
-        columns-most = f .columns-most;
-        rows = f .rows;
-        rows-most = f .rows-most;
-        exponent = f .exponent;
-        x-inside = f .x-inside i h;
-        y-inside = f .y-inside i h;
-        room = g;
-      }
-
-most : {m n e : ℕ} {xs ys : List ℕ} {zs : List ℤ} → Fittable m n e xs ys zs → controls m n ≤ 265_225
-most {m} {n} f = controls-most m n (f .columns-most) (f .rows-most)
+  begun : cleared ≡ over (sumTable (2 ^ e) m n []) cleared
+  begun = is ∙ ap (λ r. over r d) (none-gathered (2 ^ e) m n) ∙ sym (hidden [])
 
 -- ---- the loop
 
 abbrev Inv-loop : tie.InvT-loop
-Inv-loop m n e xs ys zs sums₀ count i₀ sums i =
-    (i ≤ length xs)
-    × (length sums ≡ length sums₀)
-    × (pointsAdded (2 ^ e) m n (rest xs ys zs i) sums ≡ pointsAdded (2 ^ e) m n (pointsOf xs ys zs) sums₀)
+Inv-loop m n e xs ys zs sums₀ count i₀ sums i = (i ≤ length xs) × (length sums ≡ length sums₀) × (sums ≡ first m n e (survey xs ys zs) i sums₀)
 
 abbrev μ-loop : tie.MeasureT-loop
 μ-loop m n e xs ys zs sums₀ count i₀ sums i = length xs - i
 
 -- ---- the needs
 
-module _ (c : tie.At-loop Inv-loop μ-loop) where
+-- where the loop begins
+module _ (c : tie.After-slice-known2 Inv-loop μ-loop) where
   abbrev start : tie.Start Inv-loop μ-loop
-  start = c .before .before .before .before .before .before .before .before
+  start = c .before .before .before .before .before .before .before
 
-  -- the sums where the loop begins
+  abbrev points : Survey
+  points = survey (start .args .xs .now) (start .args .ys .now) (start .args .zs .now)
+
   abbrev cleared : List Float
-  cleared = c .before .before .before .clear .last .0
+  cleared = c .before .before .clear .last .1 .0
 
   cleared-is : cleared ≡ over (tabulate (2 * controls (start .args .m) (start .args .n)) (λ i. rule.zero64)) (start .args .sums .now)
   unfolding controls
-  cleared-is = c .before .before .before .clear .ensures
+  cleared-is = c .before .before .clear .ensures ∙ ap (λ r. over r (start .args .sums .now)) (sym (tabulate-replicate (2 * controls (start .args .m) (start .args .n)) rule.zero64))
 
-  kept : length (c .loop .sums) ≡ length (start .args .sums .now)
-  kept = c .loop .inv .1 ∙ c .before .before .before .clear .kept .0
+  cleared-long : 2 * controls (start .args .m) (start .args .n) ≤ length cleared
+  cleared-long = rw (c .before .before .clear .kept .1 .0) (start .pre .1)
 
 add-count : tie.Need-add-count Inv-loop μ-loop
 add-count c = omega arith
@@ -96,17 +84,18 @@ mul-count c = let s = c .before .before .before in omega (arith, most (s .pre .0
 
 mul-clear : tie.Need-mul-clear Inv-loop μ-loop
 unfolding controls
-mul-clear c = let s = c .before .before .before .before in omega (arith, most (s .pre .0))
+mul-clear c = let s = c .before .before .before in omega (arith, most (s .pre .0))
 
 clear-requires : tie.Need-clear-requires Inv-loop μ-loop
 unfolding controls
 clear-requires c κs = c .before .before .before .before .pre .1
 
 loop-holds : tie.Need-loop-holds Inv-loop μ-loop
-loop-holds c = (omega arith, refl, refl)
+unfolding tabulate
+loop-holds c = let a = start c .args in (omega arith, refl, begun (a .m) (a .n) (a .e) (a .sums .now) (cleared-is c))
 
 mul-add-point : tie.Need-mul-add-point Inv-loop μ-loop
-mul-add-point c = omega (arith, start (c .before .before) .good .1 .1 .1 .0 .1)
+mul-add-point c = omega (arith, start (c .before .before .before) .good .1 .1 .1 .0 .1)
 
 shared-slice-read-add-point : tie.Need-shared-slice-read-add-point Inv-loop μ-loop
 shared-slice-read-add-point c = omega arith
@@ -115,26 +104,26 @@ cast-add-point : tie.Need-cast-add-point Inv-loop μ-loop
 cast-add-point c = omega (arith, c .shared-slice-known3 .given (c .before .before .before .loop .i))
 
 mul-add-point-2 : tie.Need-mul-add-point-2 Inv-loop μ-loop
-mul-add-point-2 c = omega (arith, start (c .before .before .before) .good .1 .1 .1 .0 .1)
+mul-add-point-2 c = omega (arith, start (c .before .before .before .before) .good .1 .1 .1 .0 .1)
 
 shared-slice-read-add-point-2 : tie.Need-shared-slice-read-add-point-2 Inv-loop μ-loop
-shared-slice-read-add-point-2 c = omega (arith, start (c .before .before .before .before) .pre .0 .as-many-y)
+shared-slice-read-add-point-2 c = omega (arith, start (c .before .before .before .before .before) .pre .0 .as-many-y)
 
 cast-add-point-2 : tie.Need-cast-add-point-2 Inv-loop μ-loop
 cast-add-point-2 c = omega (arith, c .shared-slice-known4 .given (c .before .before .before .before .loop .i))
 
 mul-add-point-3 : tie.Need-mul-add-point-3 Inv-loop μ-loop
 mul-add-point-3 c =
-    let s = start (c .before .before .before .before) in
+    let s = start (c .before .before .before .before .before) in
     omega (arith, s .pre .0 .as-many-z, s .good .1 .1 .1 .1 .1 .0 .1)
 
 shared-slice-copy-out-add-point : tie.Need-shared-slice-copy-out-add-point Inv-loop μ-loop
-shared-slice-copy-out-add-point c = omega (arith, start (c .before .before .before .before) .pre .0 .as-many-z)
+shared-slice-copy-out-add-point c = omega (arith, start (c .before .before .before .before .before) .pre .0 .as-many-z)
 
 add-point-requires : tie.Need-add-point-requires Inv-loop μ-loop
 add-point-requires c κs =
     let l = c .before .before .before .before .before in
-    fitting (start l .pre .0) (l .loop .i) (omega arith) _ (rw (kept l) (start l .pre .1))
+    fitting (start (l .before) .pre .0) (l .loop .i) _ (omega arith) (rw (l .loop .inv .1) (cleared-long (l .before)))
 
 add-i : tie.Need-add-i Inv-loop μ-loop
 add-i c = omega arith
@@ -146,22 +135,23 @@ loop-again : tie.Need-loop-again Inv-loop μ-loop
 loop-again c =
     let d = c .before .before in
     let l = d .before .before .before .before .before .before in
-    let i = l .loop .i in
-    let z = plain (getD (start l .args .zs .now) i (pos 0)) (d .before .add-point-arg2 .given) in
-    (omega arith, d .add-point .kept .0 ∙ l .loop .inv .1, next (start l .pre .0) i (omega arith) _ _ _ z (d .add-point .ensures) ∙ l .loop .inv .2)
+    let b = l .before in (
+      omega arith,
+      d .add-point .kept .0 ∙ l .loop .inv .1,
+      next (start b .pre .0) (l .loop .i) (cleared b) (cleared-long b) (l .loop .inv .2) (plain _ (d .before .add-point-arg2 .given)) (d .add-point .ensures),
+    )
 
 same-length : tie.Need-same-length Inv-loop μ-loop
-same-length c = kept (c .before)
+same-length c = c .before .loop .inv .1 ∙ c .before .before .before .before .clear .kept .1 .0
 
 returns : tie.Need-returns Inv-loop μ-loop
+unfolding pointsOf
 returns c =
     let l = c .before in
-    let s = start l in
-    let a = s .args in
-    sym (ended (2 ^ a .e) (a .m) (a .n) (a .xs .now) (a .ys .now) (a .zs .now) (l .loop .i) (l .loop .sums) (omega arith))
-    ∙ l .loop .inv .2
-    ∙ ap (pointsAdded (2 ^ a .e) (a .m) (a .n) (pointsOf (a .xs .now) (a .ys .now) (a .zs .now))) (cleared-is l)
-    ∙ scattered (2 ^ a .e) (a .m) (a .n) (pointsOf (a .xs .now) (a .ys .now) (a .zs .now)) (a .sums .now) (s .pre .0 .columns) (s .pre .0 .rows) (s .pre .1)
+    let b = l .before in
+    let a = start b .args in
+    let all : l .loop .i ≡ pointCount (points b) = omega arith in
+    rw all at (l .loop .inv .2) ∙ hidden (a .m) (a .n) (a .e) (a .sums .now) (cleared-is b) (pointsOf (points b))
 
 pub gather-spec : {M : Type 1} → statement M
 gather-spec =

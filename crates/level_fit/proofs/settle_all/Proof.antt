@@ -1,7 +1,8 @@
 -- `level_fit::settle_all` meets its contract. The loop's invariant: no value before q is refused, and those values stand in the level.
 use borrow.Author.Needs.{needs}
 use Prim.Native.Nat.{ℕ, _+_, _-_, _≤_, _<_}
-use mathlib.Core.Path.{_≡_, refl, sym, ap, _∙_}
+use mathlib.Core.Path.{_≡_, refl, sym, ap, subst, _∙_}
+use mathlib.Core.Bool.{true, false}
 use mathlib.Core.Option.{none, some}
 use mathlib.Core.List.{List}
 use native.Mathlib.Numerals.{add-one}
@@ -9,14 +10,14 @@ use native.Mathlib.Omega.{arith}
 use lib.IntN.{ℤ, pos}
 use lib.Ieee.{Float}
 use lib.ListN.{length, set, length-set}
-use Rattle.algebra.specs.Table.{tabulate, over, over-none, fill-more}
+use Rattle.algebra.specs.Table.{tabulate, over, Free, length-tabulate, over-none, fill-store, free-over}
 use Rattle.machine.specs.Tests.{plain}
 use Rattle.rules.specs.Answers as answer
 use Rattle.rules.specs.Fit.{present, orZero}
 use Rattle.rules.specs.Level as rule
 use Rattle.rules.specs.Laws.Checks.{then-none, firstOf-at}
-use Rattle.float_near.specs.Settled.{settled}
-use Rattle.level_fit.specs.Sums.{pairAt, settledAt}
+use Rattle.float_near.specs.Settled.{settledValue}
+use Rattle.level_fit.specs.Sums.{pairAt, settledAt, SettledAll}
 use Rattle.level_fit.proofs.settle_all.Statement.{statement}
 use Rattle.level_fit.proofs.settle_all.Tie as tie
 
@@ -28,28 +29,38 @@ module _ (count : ℕ) (sums : List Float) where
   abbrev value : ℕ → ℤ
   value q = orZero (settledAt count sums q)
 
-  check-more : (q : ℕ) (z : ℤ) → ((r : answer.Refusal) → answer.firstOf q (check r) ≡ none) → settledAt count sums q ≡ some z
-      → (r : answer.Refusal) → answer.firstOf (q + 1) (check r) ≡ none
-  unfolding answer.firstOf answer.require present
-  check-more q z h e r = rw (add-one q) (then-none (answer.firstOf q (check r)) (check r q) (h r) ∙ rw e)
+-- no value before q is refused, and they stand in the level
+record Passed (count : ℕ) (sums : List Float) (before : List ℤ) (q : ℕ) (level : List ℤ) : Type 0 where
+  most : q ≤ count
+  kept : length level ≡ length before
+  none-refused : (r : answer.Refusal) → answer.firstOf q (check count sums r) ≡ none
+  written : level ≡ over (tabulate q (value count sums)) before
 
-  check-at : (q : ℕ) → ((r : answer.Refusal) → answer.firstOf q (check r) ≡ none) → q < count → settledAt count sums q ≡ none
-      → (r : answer.Refusal) → answer.firstOf count (check r) ≡ some r
+module _ {count : ℕ} {sums : List Float} {before : List ℤ} {q : ℕ} {level : List ℤ} (p : Passed count sums before q level) (room : count ≤ length before) where
+  one-more : {z : ℤ} → q < count → settledAt count sums q ≡ some z → Passed count sums before (q + 1) (set level q z)
+  unfolding answer.firstOf answer.require present orZero
+  one-more l e =
+      record {
+        most = omega (arith, p .most);
+        kept = simp length-set (p .kept);
+        none-refused = λ r. rw (add-one q) (then-none (answer.firstOf q (check count sums r)) (check count sums r q) (p .none-refused r) ∙ rw e);
+        written = fill-store q (value count sums) before (pos 0) (omega arith) (p .written) (sym (ap orZero e));
+      }
+
+  free : Free 0 count before level
+  free = rw (p .written) (free-over count (tabulate q (value count sums)) before (rw (length-tabulate q (value count sums)) (p .most)) room)
+
+  refused : q < count → settledAt count sums q ≡ none → SettledAll count sums false before level
   unfolding answer.require present
-  check-at q h l e r = firstOf-at count q (check r) r (h r) l (rw e)
+  refused l e = record { found = λ r. firstOf-at count q (check count sums r) r (p .none-refused r) l (rw e); is = λ t. absurd t; free = free }
 
-  value-more : (q : ℕ) (z : ℤ) (level start : List ℤ) → level ≡ over (tabulate q value) start → q < length start → settledAt count sums q ≡ some z
-      → set level q z ≡ over (tabulate (q + 1) value) start
-  unfolding orZero
-  value-more q z level start h l e =
-      ap (λ d. set d q z) h ∙ ap (set (over (tabulate q value) start) q) (sym (ap orZero e)) ∙ fill-more q value start (pos 0) l
+  all-passed : count ≤ q → SettledAll count sums true before level
+  all-passed l =
+      let e : q ≡ count = omega (arith, p .most) in
+      record { found = λ r. subst (λ q. answer.firstOf q (check count sums r) ≡ none) e (p .none-refused r); is = λ t. subst (λ q. level ≡ over (tabulate q (value count sums)) before) e (p .written); free = free }
 
 abbrev Inv-loop : tie.InvT-loop
-Inv-loop count sums level₀ q₀ level q =
-    (q ≤ count)
-    × (length level ≡ length level₀)
-    × ((r : answer.Refusal) → answer.firstOf q (check count sums r) ≡ none)
-    × (level ≡ over (tabulate q (value count sums)) level₀)
+Inv-loop count sums level₀ q₀ level q = Passed count sums level₀ q level
 
 abbrev μ-loop : tie.MeasureT-loop
 μ-loop count sums level₀ q₀ level q = count - q
@@ -62,13 +73,13 @@ module _ (c : tie.After-settle Inv-loop μ-loop) where
   start = head .before .before
 
   -- what the pair at q settles to
-  settled-is : settled (c .settle .result) ≡ settledAt (start .args .count) (start .args .sums .now) (head .loop .q)
+  settled-is : settledValue (c .settle .result) ≡ settledAt (start .args .count) (start .args .sums .now) (head .loop .q)
   unfolding settledAt pairAt
   settled-is = c .settle .ensures ∙ ap rule.settled (c .before .quotient-of .ensures)
 
 loop-holds : tie.Need-loop-holds Inv-loop μ-loop
 unfolding tabulate answer.firstOf
-loop-holds c = (omega arith, refl, λ r. refl, sym (over-none _))
+loop-holds c = record { most = omega arith; kept = refl; none-refused = λ r. refl; written = sym (over-none _) }
 
 mul-t9 : tie.Need-mul-t9 Inv-loop μ-loop
 mul-t9 c = omega arith
@@ -104,13 +115,10 @@ enum-told : tie.Need-enum-told Inv-loop μ-loop
 enum-told c = search needs
 
 same-length : tie.Need-same-length Inv-loop μ-loop
-same-length c = head (c .before .before) .loop .inv .1
+same-length c = head (c .before .before) .loop .inv .kept
 
 returns : tie.Need-returns Inv-loop μ-loop
-returns c =
-    let d = c .before .before in
-    let l = head d .loop in
-    (check-at (start d .args .count) (start d .args .sums .now) (l .q) (l .inv .2) (omega arith) (sym (settled-is d) ∙ ap settled (c .enum-told .given .1)), λ t. absurd t)
+returns c = let d = c .before .before in refused (head d .loop .inv) (start d .pre .1) (omega arith) (sym (settled-is d) ∙ ap settledValue (c .enum-told .given .1))
 
 add-q : tie.Need-add-q Inv-loop μ-loop
 add-q c = omega arith
@@ -121,26 +129,14 @@ loop-less c = omega arith
 loop-again : tie.Need-loop-again Inv-loop μ-loop
 loop-again c =
     let d = c .before .before .before in
-    let l = head d .loop in
-    let z = c .before .z .given .0 .0 in
-    let is : settledAt (start d .args .count) (start d .args .sums .now) (l .q) ≡ some z = sym (settled-is d) ∙ ap settled (c .before .z .given .1) in (
-      omega arith,
-      simp length-set (l .inv .1),
-      check-more (start d .args .count) (start d .args .sums .now) (l .q) z (l .inv .2) is,
-      ap (set (l .level) (l .q)) (plain z (c .known-told .given .0 .1)) ∙ value-more (start d .args .count) (start d .args .sums .now) (l .q) z (l .level) (start d .args .level .now) (l .inv .3) (omega arith) is,
-    )
+    let z = c .before .z .given in
+    rw (plain (z .0 .0) (c .known-told .given .0 .1)) (one-more (head d .loop .inv) (start d .pre .1) (omega arith) (sym (settled-is d) ∙ ap settledValue (z .1)))
 
 same-length-2 : tie.Need-same-length-2 Inv-loop μ-loop
-same-length-2 c = c .before .loop .inv .1
+same-length-2 c = c .before .loop .inv .kept
 
 returns-2 : tie.Need-returns-2 Inv-loop μ-loop
-returns-2 c =
-    let l = c .before .loop in
-    let a = c .before .before .before .args in
-    let e : l .q ≡ a .count = omega arith in (
-      λ r. ap (λ q. answer.firstOf q (check (a .count) (a .sums .now) r)) (sym e) ∙ l .inv .2 r,
-      λ t. l .inv .3 ∙ ap (λ q. over (tabulate q (value (a .count) (a .sums .now))) (a .level .now)) e,
-    )
+returns-2 c = all-passed (c .before .loop .inv) (c .before .before .before .pre .1) (omega arith)
 
 pub settle-all-spec : {M : Type 1} → statement M
 settle-all-spec =

@@ -13,26 +13,27 @@ use mir.Val.{Fits}
 use Rattle.rules.specs.Grid.{cellsAt}
 use Rattle.rules.specs.Fit.{shape, columns, rows}
 use Rattle.rules.specs.Answers.{Refusal, require, _then_, firstOf, trailing, accepted, refused, answer}
-use Rattle.rules.specs.PointFile.{pointStart, fileShape, filePoints, headCheck, pointCheck, pointFileCheck}
+use Rattle.rules.specs.PointFile.{pointStart, fileShape, filePoints, pointHeadCheck, pointRecordCheck, pointFileCheck}
 use Rattle.rules.specs.Bytes.{numberAt}
-use Rattle.survey.specs.Passed.{cellsAt-shifted, cellsAt-most}
+use Rattle.rules.specs.Laws.Passed.{cellsAt-most}
+use Rattle.survey.specs.Cells.{cellsAt-shifted}
 use Rattle.point_file.specs.Told.{header}
 use Rattle.point_file.specs.Records.{HeadBounds, numberAt-one, head-passed}
 use Rattle.point_file.proofs.judge.Statement.{statement}
 use Rattle.point_file.proofs.judge.Tie as tie
 
 module _ (file : List ℕ) where
-  at-head : (r : Refusal) → headCheck file ≡ some r → refused r ≡ answer (pointFileCheck file) (header file)
+  at-head : (r : Refusal) → pointHeadCheck file ≡ some r → refused r ≡ answer (pointFileCheck file) (header file)
   unfolding pointFileCheck _then_ answer
   at-head r e = rw e
 
   -- p is the number of points that the head says
-  module _ (p : ℕ) (is : p ≡ numberAt 2 file 6) (head : headCheck file ≡ none) where
-    at-point : (r : Refusal) → firstOf p (pointCheck (fileShape file) file) ≡ some r → refused r ≡ answer (pointFileCheck file) (header file)
+  module _ (p : ℕ) (is : p ≡ numberAt 2 file 6) (head : pointHeadCheck file ≡ none) where
+    at-point : (r : Refusal) → firstOf p (pointRecordCheck (fileShape file) file) ≡ some r → refused r ≡ answer (pointFileCheck file) (header file)
     unfolding pointFileCheck filePoints _then_ answer
     at-point r e = rw (head, ← is, e)
 
-    module _ (points : firstOf p (pointCheck (fileShape file) file) ≡ none) where
+    module _ (points : firstOf p (pointRecordCheck (fileShape file) file) ≡ none) where
       at-end : (length file ≡ 8 + 14 * p → ⊥) → refused (trailing (8 + 14 * p)) ≡ answer (pointFileCheck file) (header file)
       unfolding pointFileCheck filePoints pointStart require _then_ answer
       at-end e = rw (head, ← is, points, ne-eqb _ _ e)
@@ -42,7 +43,7 @@ module _ (file : List ℕ) where
       unfolding pointFileCheck fileShape filePoints pointStart require _then_ answer
       whole e = rw (head, ← is, points, eq-eqb _ _ e, numberAt-one file 2, numberAt-one file 3, numberAt-one file 4)
 
-head-none : (c : tie.After-enum-told) → headCheck (c .before .before .before .before .args .file .now) ≡ none
+head-none : (c : tie.After-enum-told) → pointHeadCheck (c .before .before .before .before .args .file .now) ≡ none
 head-none c = sym (c .before .before .head .ensures) ∙ ap check (c .enum-told .given .1)
 
 bounded : (c : tie.After-enum-told) → HeadBounds (c .before .before .before .before .args .file .now)

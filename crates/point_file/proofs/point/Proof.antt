@@ -14,29 +14,29 @@ use Rattle.rules.specs.Grid.{inRange, inside}
 use Rattle.rules.specs.Fit.{Shape}
 use Rattle.rules.specs.Answers.{require, _then_, field}
 use Rattle.rules.specs.Bytes.{numberAt, valueAt, recordCheck}
-use Rattle.rules.specs.PointFile.{PT, pointStart, fileX, fileY, fileZ, pointCheck}
+use Rattle.rules.specs.PointFile.{PT, pointStart, fileX, fileY, fileZ, pointRecordCheck}
 use Rattle.point_file.specs.Told.{lastX, lastY}
 use Rattle.rules.specs.Laws.Bytes.{record-fits}
 use Rattle.point_file.proofs.point.Statement.{statement}
 use Rattle.point_file.proofs.point.Tie as tie
 
 module _ (a : Shape) (file : List ℕ) (i : ℕ) (stands : recordCheck PT file (8 + 14 * i) 14 ≡ none) where
-  past-right : lastX a < numberAt 2 file (8 + 14 * i + 2) → pointCheck a file i ≡ some (field (8 + 14 * i + 2))
-  unfolding pointCheck pointStart fileX inside require _then_
+  past-right : lastX a < numberAt 2 file (8 + 14 * i + 2) → pointRecordCheck a file i ≡ some (field (8 + 14 * i + 2))
+  unfolding pointRecordCheck pointStart fileX inside require _then_
   past-right x = rw (stands, lt-leb _ _ x)
 
-  past-top : numberAt 2 file (8 + 14 * i + 2) ≤ lastX a → lastY a < numberAt 2 file (8 + 14 * i + 4) → pointCheck a file i ≡ some (field (8 + 14 * i + 4))
-  unfolding pointCheck pointStart fileX fileY inside require _then_
+  past-top : numberAt 2 file (8 + 14 * i + 2) ≤ lastX a → lastY a < numberAt 2 file (8 + 14 * i + 4) → pointRecordCheck a file i ≡ some (field (8 + 14 * i + 4))
+  unfolding pointRecordCheck pointStart fileX fileY inside require _then_
   past-top x y = rw (stands, le-leb _ _ x, lt-leb _ _ y)
 
   out : numberAt 2 file (8 + 14 * i + 2) ≤ lastX a → numberAt 2 file (8 + 14 * i + 4) ≤ lastY a → inRange (valueAt file (8 + 14 * i + 6)) ≡ false
-      → pointCheck a file i ≡ some (field (8 + 14 * i + 6))
-  unfolding pointCheck pointStart fileX fileY fileZ inside require _then_
+      → pointRecordCheck a file i ≡ some (field (8 + 14 * i + 6))
+  unfolding pointRecordCheck pointStart fileX fileY fileZ inside require _then_
   out x y z = rw (stands, le-leb _ _ x, le-leb _ _ y, z)
 
   fine : numberAt 2 file (8 + 14 * i + 2) ≤ lastX a → numberAt 2 file (8 + 14 * i + 4) ≤ lastY a → inRange (valueAt file (8 + 14 * i + 6)) ≡ true
-      → pointCheck a file i ≡ none
-  unfolding pointCheck pointStart fileX fileY fileZ inside require _then_
+      → pointRecordCheck a file i ≡ none
+  unfolding pointRecordCheck pointStart fileX fileY fileZ inside require _then_
   fine x y z = rw (stands, le-leb _ _ x, le-leb _ _ y, z)
 
 -- the record stands where `record` refused nothing
@@ -69,7 +69,7 @@ enum-known-r : tie.Need-enum-known-r
 enum-known-r c = search needs
 
 returns : tie.Need-returns
-unfolding pointCheck pointStart PT _then_
+unfolding pointRecordCheck pointStart PT _then_
 returns c = rw (← c .before .before .before .«record» .ensures, c .before .r .given .1)
 
 enum-told : tie.Need-enum-told

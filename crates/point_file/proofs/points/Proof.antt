@@ -6,13 +6,13 @@ use native.Mathlib.Omega.{arith}
 use borrow.Author.Needs.{needs}
 use borrow.Author.Count.{below-none, below-more}
 use Rattle.answers.specs.Cause.{check}
-use Rattle.rules.specs.PointFile.{fileShape, pointCheck}
+use Rattle.rules.specs.PointFile.{fileShape, pointRecordCheck}
 use Rattle.rules.specs.Laws.Checks.{firstOf-all, firstOf-at}
 use Rattle.point_file.proofs.points.Statement.{statement}
 use Rattle.point_file.proofs.points.Tie as tie
 
 abbrev Inv-loop : tie.InvT-loop
-Inv-loop file right top p i₀ i = (i ≤ p) × ((k : ℕ) → k < i → pointCheck (fileShape file) file k ≡ none)
+Inv-loop file right top p i₀ i = (i ≤ p) × ((k : ℕ) → k < i → pointRecordCheck (fileShape file) file k ≡ none)
 
 abbrev μ-loop : tie.MeasureT-loop
 μ-loop file right top p i₀ i = p - i

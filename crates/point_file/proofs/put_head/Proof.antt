@@ -6,10 +6,9 @@ use native.Mathlib.Nat.{mod-eq-of-lt}
 use native.Mathlib.Omega.{arith}
 use borrow.Author.Needs.{needs}
 use lib.ListN.{length, set, length-set}
-use Rattle.algebra.specs.Table.{over, laid, length-laid}
+use Rattle.algebra.specs.Table.{over, laid, length-laid, laid-sets, laid-after, laid-as-over}
 use Rattle.rules.specs.Bytes.{bytesOf}
 use Rattle.rules.specs.PointFile.{PH}
-use Rattle.codec.specs.Laid.{laid-sets, laid-next, laid-as-over}
 use Rattle.point_file.specs.Told.{headBytes}
 use Rattle.point_file.proofs.put_head.Statement.{statement}
 use Rattle.point_file.proofs.put_head.Tie as tie
@@ -21,8 +20,8 @@ parts : (m0 n0 h p : ℕ) (d : List ℕ) {marked whole : List ℕ} → m0 < 256 
 unfolding PH bytesOf headBytes
 parts m0 n0 h p d {marked} a b c l e₁ e₂ =
     e₂
-    ∙ ap (laid 6 (bytesOf 2 p)) (laid-sets 2 four marked room ∙ ap (laid 2 four) e₁ ∙ laid-next 0 2 PH four d (omega arith) refl)
-    ∙ laid-next 0 6 (PH ++ four) (bytesOf 2 p) d (omega arith) refl
+    ∙ ap (laid 6 (bytesOf 2 p)) (laid-sets 2 four marked room ∙ ap (laid 2 four) e₁ ∙ laid-after 0 2 PH four d (omega arith) refl)
+    ∙ laid-after 0 6 (PH ++ four) (bytesOf 2 p) d (omega arith) refl
     ∙ laid-as-over 0 (PH ++ four ++ bytesOf 2 p) d (omega arith)
     ∙ rw (mod-eq-of-lt a, mod-eq-of-lt b, mod-eq-of-lt c)
   where

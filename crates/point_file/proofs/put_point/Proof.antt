@@ -6,11 +6,10 @@ use native.Mathlib.Omega.{arith}
 use borrow.Author.Needs.{needs}
 use lib.IntN.{ℤ}
 use lib.ListN.{length}
-use Rattle.algebra.specs.Table.{laid}
+use Rattle.algebra.specs.Table.{laid, laid-after}
 use Rattle.machine.specs.Tests.{plain}
 use Rattle.rules.specs.Bytes.{bytesOf, valueBytes}
 use Rattle.rules.specs.PointFile.{PT, pointRecord}
-use Rattle.codec.specs.Laid.{laid-next}
 use Rattle.point_file.proofs.put_point.Statement.{statement}
 use Rattle.point_file.proofs.put_point.Tie as tie
 
@@ -20,12 +19,12 @@ parts : (s x y : ℕ) {z v : ℤ} (d : List ℕ) {marked with-x with-y whole : L
     → with-x ≡ laid (s + 2) (bytesOf 2 x) marked
     → with-y ≡ laid (s + 4) (bytesOf 2 y) with-x
     → whole ≡ laid (s + 6) (valueBytes v) with-y
-    → whole ≡ laid s (pointRecord x y z) d
+    → whole ≡ laid s (pointRecord (record { x = x; y = y; z = z })) d
 unfolding PT bytesOf pointRecord
 parts s x y {z} d {with-y = l} h is e₁ e₂ e₃ e₄ =
-    let f₂ = e₂ ∙ ap (laid (s + 2) (bytesOf 2 x)) e₁ ∙ laid-next s (s + 2) PT (bytesOf 2 x) d h refl in
-    let f₃ = e₃ ∙ ap (laid (s + 4) (bytesOf 2 y)) f₂ ∙ laid-next s (s + 4) (PT ++ bytesOf 2 x) (bytesOf 2 y) d h refl in
-    e₄ ∙ ap (λ v. laid (s + 6) (valueBytes v) l) is ∙ ap (laid (s + 6) (valueBytes z)) f₃ ∙ laid-next s (s + 6) (PT ++ bytesOf 2 x ++ bytesOf 2 y) (valueBytes z) d h refl
+    let f₂ = e₂ ∙ ap (laid (s + 2) (bytesOf 2 x)) e₁ ∙ laid-after s (s + 2) PT (bytesOf 2 x) d h refl in
+    let f₃ = e₃ ∙ ap (laid (s + 4) (bytesOf 2 y)) f₂ ∙ laid-after s (s + 4) (PT ++ bytesOf 2 x) (bytesOf 2 y) d h refl in
+    e₄ ∙ ap (λ v. laid (s + 6) (valueBytes v) l) is ∙ ap (laid (s + 6) (valueBytes z)) f₃ ∙ laid-after s (s + 6) (PT ++ bytesOf 2 x ++ bytesOf 2 y) (valueBytes z) d h refl
 
 put-mark-requires : tie.Need-put-mark-requires
 put-mark-requires c κs = search needs

@@ -4,50 +4,42 @@ use mathlib.Core.List.{List}
 use Prim.Native.Nat.{ℕ, _+_, _*_, _-_, _≤_}
 use native.Mathlib.Numerals.{add-one}
 use native.Mathlib.Omega.{arith}
-use lib.IntN.{ℤ, pos}
-use lib.ListN.{length, getD, take-append-drop}
-use Rattle.algebra.specs.Table.{joined, laid, length-laid}
+use lib.IntN.{ℤ}
+use lib.ListN.{length, take-append-drop}
+use Rattle.algebra.specs.Table.{joined, laid, length-laid, laid-after}
 use Rattle.machine.specs.Tests.{plain}
-use Rattle.rules.specs.Bytes.{bytesOf}
-use Rattle.rules.specs.PointFile.{PT, pointRecord}
-use Rattle.rules.specs.Laws.Bytes.{length-valueBytes, length-joined}
-use Rattle.codec.specs.Laid.{laid-next}
-use Rattle.point_file.specs.Told.{recordOf}
+use Rattle.rules.specs.Fit.{Survey, survey, pointAt}
+use Rattle.rules.specs.PointFile.{pointRecord}
+use Rattle.rules.specs.Laws.PointFile.{recordOf, length-records}
 use Rattle.point_file.proofs.put_points.Statement.{statement}
 use Rattle.point_file.proofs.put_points.Tie as tie
 
 abbrev Inv-loop : tie.InvT-loop
-Inv-loop xs ys zs output₀ i₀ output i = (i ≤ length xs) × (output ≡ laid 8 (joined i (recordOf xs ys zs)) output₀)
+Inv-loop xs ys zs output₀ i₀ output i = (i ≤ length xs) × (output ≡ laid 8 (joined i (recordOf (survey xs ys zs))) output₀)
 
 abbrev μ-loop : tie.MeasureT-loop
 μ-loop xs ys zs output₀ i₀ output i = length xs - i
 
-module _ (xs ys : List ℕ) (zs : List ℤ) where
-  length-record : (i : ℕ) → length (recordOf xs ys zs i) ≡ 14
-  unfolding recordOf pointRecord PT bytesOf
-  length-record i = rw (length-valueBytes (getD zs i (pos 0)))
+-- one record more; v is the height as it is handed on
+next : (s : Survey) (i : ℕ) (d : List ℕ) {v : ℤ} {before after : List ℕ} → 8 ≤ length d → v ≡ pointAt s i .z
+    → before ≡ laid 8 (joined i (recordOf s)) d
+    → after ≡ laid (8 + 14 * i) (pointRecord (record { x = pointAt s i .x; y = pointAt s i .y; z = v })) before
+    → after ≡ laid 8 (joined (i + 1) (recordOf s)) d
+unfolding joined
+next s i d h is e₁ e₂ =
+    e₂
+    ∙ ap₂ (λ v l. laid (8 + 14 * i) (pointRecord (record { x = pointAt s i .x; y = pointAt s i .y; z = v })) l) is e₁
+    ∙ laid-after 8 (8 + 14 * i) (joined i (recordOf s)) (recordOf s i) d h (omega (arith, length-records s i))
+    ∙ ap (λ k. laid 8 (joined k (recordOf s)) d) (sym (add-one i))
 
-  length-records : (i : ℕ) → length (joined i (recordOf xs ys zs)) ≡ i * 14
-  length-records = length-joined 14 (recordOf xs ys zs) length-record
-
-  -- one record more; v is the height as it is handed on
-  next : (i : ℕ) (d : List ℕ) {v : ℤ} {before after : List ℕ} → 8 ≤ length d → v ≡ getD zs i (pos 0)
-      → before ≡ laid 8 (joined i (recordOf xs ys zs)) d
-      → after ≡ laid (8 + 14 * i) (pointRecord (getD xs i 0) (getD ys i 0) v) before
-      → after ≡ laid 8 (joined (i + 1) (recordOf xs ys zs)) d
-  unfolding joined recordOf
-  next i d h is e₁ e₂ =
-      e₂
-      ∙ ap₂ (λ v l. laid (8 + 14 * i) (pointRecord (getD xs i 0) (getD ys i 0) v) l) is e₁
-      ∙ laid-next 8 (8 + 14 * i) (joined i (recordOf xs ys zs)) (recordOf xs ys zs i) d h (omega (arith, length-records i))
-      ∙ ap (λ k. laid 8 (joined k (recordOf xs ys zs)) d) (sym (add-one i))
+abbrev given : tie.Start Inv-loop μ-loop → Survey
+given c = let a = c .args in survey (a .xs .now) (a .ys .now) (a .zs .now)
 
 -- the slice keeps its length
 as-long : (c : tie.At-loop Inv-loop μ-loop) → length (c .loop .output) ≡ length (c .before .before .before .before .args .output .now)
 as-long c =
-    let a = c .before .before .before .before .args in
-    ap length (c .loop .inv .1)
-    ∙ length-laid 8 (joined (c .loop .i) (recordOf (a .xs .now) (a .ys .now) (a .zs .now))) _ (omega (arith, length-records (a .xs .now) (a .ys .now) (a .zs .now) (c .loop .i)))
+    let s = given (c .before .before .before .before) in
+    ap length (c .loop .inv .1) ∙ length-laid 8 (joined (c .loop .i) (recordOf s)) _ (omega (arith, length-records s (c .loop .i)))
 
 loop-holds : tie.Need-loop-holds Inv-loop μ-loop
 unfolding joined laid
@@ -91,7 +83,7 @@ loop-again c =
     let call = c .before .before in
     let arg = call .before .before in
     let p = arg .before .before .before .before in
-    (omega arith, next _ _ _ _ _ (omega arith) (plain _ (arg .put-point-arg .given)) (p .loop .inv .1) (call .put-point .ensures))
+    (omega arith, next (given (p .before .before .before .before)) (p .loop .i) _ (omega arith) (plain _ (arg .put-point-arg .given)) (p .loop .inv .1) (call .put-point .ensures))
 
 same-length : tie.Need-same-length Inv-loop μ-loop
 same-length c = as-long (c .before)

@@ -1,19 +1,20 @@
 -- `point_file::read_points` meets its contract: a refusal, the file's or that a slice is short, leaves the three slices; an accepted file is copied to them.
 use mathlib.Core.Path.{_≡_, sym, ap, _∙_}
 use mathlib.Core.Bool.{false, _&&_}
-use mathlib.Core.Option.{none}
+use mathlib.Core.Option.{none, some}
 use mathlib.Core.List.{List}
 use Prim.Native.Nat.{ℕ, _≤_}
 use native.Mathlib.Omega.{arith}
 use borrow.Author.Needs.{needs}
 use borrow.Author.Tests.{le-leb, lt-leb}
-use lib.Dec.{leb, eqb, eqb→eq}
+use lib.Dec.{leb, eqb→eq}
 use lib.IntN.{ℤ}
 use lib.ListN.{length}
 use Rattle.algebra.specs.Table.{tabulate, over}
-use Rattle.rules.specs.Answers.{Refusal, require, _then_, short, Answer, accepted, refused, answer, left}
-use Rattle.rules.specs.PointFile.{Header, pointStart, filePoints, fileX, fileY, fileZ, pointFileCheck, readPointsCheck, readPointsAnswer, readPointsLeaves}
-use Rattle.rules.specs.Laws.Checks.{required, then-rest, answer-none, answer-value, answer-refused}
+use Rattle.rules.specs.Fit.{Survey, survey}
+use Rattle.rules.specs.Answers.{Refusal, require, _then_, short, Answer, accepted, refused, answer, outcome}
+use Rattle.rules.specs.PointFile.{Header, pointStart, filePoints, fileX, fileY, fileZ, fileSurvey, pointFileCheck, readPointsCheck, overLists, readPointsCall}
+use Rattle.rules.specs.Laws.Checks.{required, then-rest, answer-none, answer-value, answer-refused, call-refused, call-accepted}
 use Rattle.point_file.specs.declared.PointsRead.the-variants as variant
 use Rattle.point_file.specs.Told.{readTold, header}
 use Rattle.point_file.proofs.read_points.Statement.{statement}
@@ -34,53 +35,43 @@ module _ (file : List ℕ) (a : Header) (told : answer (pointFileCheck file) (he
       let ends : length file ≡ pointStart (filePoints file) = eqb→eq _ _ (required _ _ (then-rest _ _ (then-rest _ _ passed))) in
       rw (← count) (omega arith)
 
-module _ (file xs ys : List ℕ) (zs : List ℤ) where
-  -- the answer, and what the slices hold afterwards
-  abbrev Answered : Answer Header → List ℕ → List ℕ → List ℤ → Type 0
-  Answered told x y z =
-      (told ≡ readPointsAnswer file xs ys zs)
-      × ((x ≡ readPointsLeaves file xs ys zs .xs) × ((y ≡ readPointsLeaves file xs ys zs .ys) × (z ≡ readPointsLeaves file xs ys zs .zs)))
+module _ (file : List ℕ) (lent : Survey) where
+  refusal : (r : Refusal) → readPointsCheck file lent ≡ some r → outcome (refused r) lent ≡ readPointsCall file lent
+  unfolding readPointsCall
+  refusal r e = call-refused _ _ _ lent r e
 
-  refusal : (r : Refusal) → readPointsAnswer file xs ys zs ≡ refused r → Answered (refused r) xs ys zs
-  unfolding readPointsLeaves left
-  refusal r e = (sym e, (rw e, (rw e, rw e)))
-
-  at-file : {told : Answer Header} (r : Refusal) → told ≡ answer (pointFileCheck file) (header file) → told ≡ refused r → Answered told xs ys zs
-  unfolding readPointsAnswer readPointsCheck _then_ answer
+  at-file : {told : Answer Header} (r : Refusal) → told ≡ answer (pointFileCheck file) (header file) → told ≡ refused r → outcome told lent ≡ readPointsCall file lent
+  unfolding readPointsCheck _then_
   at-file r judged e = rw e (refusal r (rw (answer-refused (pointFileCheck file) (header file) r (sym judged ∙ e))))
 
   -- the file is accepted, with the header a
   module _ (a : Header) (told : answer (pointFileCheck file) (header file) ≡ accepted a) where
-    at-length : (leb (a .points) (length xs) && leb (a .points) (length ys) && leb (a .points) (length zs)) ≡ false
-        → Answered (refused short) xs ys zs
-    unfolding readPointsAnswer readPointsCheck require _then_ answer
+    at-length : (leb (a .points) (length (lent .xs)) && leb (a .points) (length (lent .ys)) && leb (a .points) (length (lent .zs))) ≡ false
+        → outcome (refused short) lent ≡ readPointsCall file lent
+    unfolding readPointsCheck require _then_
     at-length e = refusal short (rw (passed file a told, count file a told, e))
 
     -- and every slice is long enough
-    module _ (lx : a .points ≤ length xs) (ly : a .points ≤ length ys) (lz : a .points ≤ length zs) where
-      answered : readPointsAnswer file xs ys zs ≡ accepted a
-      unfolding readPointsAnswer readPointsCheck require _then_ answer
-      answered =
-          let n = count file a told in
-          rw
-          (passed file a told, le-leb (filePoints file) (length xs) (omega arith), le-leb (filePoints file) (length ys) (omega arith), le-leb (filePoints file) (length zs) (omega arith))
-          (ap accepted (answer-value (pointFileCheck file) (header file) a told))
-
-      copied : {x y : List ℕ} {z : List ℤ}
-          → x ≡ over (tabulate (a .points) (fileX file)) xs
-          → y ≡ over (tabulate (a .points) (fileY file)) ys
-          → z ≡ over (tabulate (a .points) (fileZ file)) zs
-          → Answered (accepted a) x y z
-      unfolding readPointsLeaves left
-      copied ex ey ez =
-          let n = count file a told in
-          (sym answered, (ex ∙ rw (answered, n), (ey ∙ rw (answered, n), ez ∙ rw (answered, n))))
+    copied : a .points ≤ length (lent .xs) → a .points ≤ length (lent .ys) → a .points ≤ length (lent .zs) → {x y : List ℕ} {z : List ℤ}
+        → x ≡ over (tabulate (a .points) (fileX file)) (lent .xs)
+        → y ≡ over (tabulate (a .points) (fileY file)) (lent .ys)
+        → z ≡ over (tabulate (a .points) (fileZ file)) (lent .zs)
+        → outcome (accepted a) (survey x y z) ≡ readPointsCall file lent
+    unfolding readPointsCheck readPointsCall overLists fileSurvey require _then_
+    copied lx ly lz ex ey ez =
+        let n = count file a told in
+        let whole = answer-value (pointFileCheck file) (header file) a told in
+        let fine : readPointsCheck file lent ≡ none = rw (passed file a told, n, le-leb _ _ lx, le-leb _ _ ly, le-leb _ _ lz) in
+        rw (ex, ey, ez, ← n, ← whole) (call-accepted _ _ _ lent fine)
 
 -- the answer of judge, where it is a header
 judged : (c : tie.After-known-told)
     → answer (pointFileCheck (c .before .before .before .before .before .before .before .args .file .now)) (header (c .before .before .before .before .before .before .before .args .file .now))
     ≡ readTold (variant.Header (c .before .read .given .0 .0))
 judged c = sym (c .before .before .before .judge .ensures) ∙ ap readTold (c .before .read .given .1)
+
+abbrev given : tie.Start → Survey
+given c = let a = c .args in survey (a .xs .now) (a .ys .now) (a .zs .now)
 
 judge-requires : tie.Need-judge-requires
 judge-requires c κs = search needs
@@ -92,17 +83,17 @@ enum-told : tie.Need-enum-told
 enum-told c = search needs
 
 returns : tie.Need-returns
-returns c = at-file _ _ _ _ _ (c .before .before .judge .ensures) (ap readTold (c .enum-told .given .1))
+returns c = at-file _ (given (c .before .before .before .before .before .before)) _ (c .before .before .judge .ensures) (ap readTold (c .enum-told .given .1))
 
 returns-2 : tie.Need-returns-2
-returns-2 c = at-length _ _ _ _ _ (judged (c .before)) (simp (lt-leb _ _ (c .if1 .taken)))
+returns-2 c = at-length _ (given (c .before .before .before .before .before .before .before .before)) _ (judged (c .before)) (simp (lt-leb _ _ (c .if1 .taken)))
 
 returns-3 : tie.Need-returns-3
-returns-3 c = at-length _ _ _ _ _ (judged (c .before .before)) (simp (le-leb _ _ (c .before .if1 .left), lt-leb _ _ (c .if2 .taken)))
+returns-3 c = at-length _ (given (c .before .before .before .before .before .before .before .before .before)) _ (judged (c .before .before)) (simp (le-leb _ _ (c .before .if1 .left), lt-leb _ _ (c .if2 .taken)))
 
 returns-4 : tie.Need-returns-4
 returns-4 c =
-    at-length _ _ _ _ _ (judged (c .before .before .before))
+    at-length _ (given (c .before .before .before .before .before .before .before .before .before .before)) _ (judged (c .before .before .before))
     (simp (le-leb _ _ (c .before .before .if1 .left), le-leb _ _ (c .before .if2 .left), lt-leb _ _ (c .if3 .taken)))
 
 copy-positions-requires : tie.Need-copy-positions-requires
@@ -130,7 +121,7 @@ returns-5 c =
     let y = z .before .before .before .before in
     let x = y .before .before .before .before in
     let e = x .before .before in
-    copied _ _ _ _ _ (judged (e .before .before .before)) (e .before .before .if1 .left) (e .before .if2 .left) (e .if3 .left) (x .copy-positions .ensures) (y .copy-positions2 .ensures) (z .copy-heights .ensures)
+    copied _ (given (e .before .before .before .before .before .before .before .before .before .before)) _ (judged (e .before .before .before)) (e .before .before .if1 .left) (e .before .if2 .left) (e .if3 .left) (x .copy-positions .ensures) (y .copy-positions2 .ensures) (z .copy-heights .ensures)
 
 pub read-points-spec : {M : Type 1} → statement M
 read-points-spec =

@@ -6,86 +6,73 @@ use Prim.Native.Nat.{ℕ, _+_, _*_, _%_, _^_, _≤_, _<_}
 use native.Mathlib.Omega.{arith}
 use borrow.Author.Needs.{needs}
 use borrow.Author.Tests.{le-leb, lt-leb}
-use lib.Dec.{leb}
-use lib.IntN.{ℤ}
 use lib.ListN.{length}
 use Rattle.algebra.specs.Table.{joined, over, laid, laid-over}
 use Rattle.answers.specs.Cause.{check}
-use Rattle.rules.specs.Fit.{shape, columns, rows}
-use Rattle.rules.specs.Answers.{Refusal, Check, require, _then_, short, Answer, accepted, refused, answer, left}
+use Rattle.rules.specs.Fit.{Shape, shape, columns, rows, Survey, survey, pointCount}
+use Rattle.rules.specs.Answers.{Refusal, require, _then_, short, accepted, refused, outcome}
 use Rattle.rules.specs.Bytes.{bytesOf}
-use Rattle.rules.specs.Calls.{cellsCheck, levelsCountCheck, listsCheck, pointsCheck}
-use Rattle.rules.specs.PointFile.{PH, pointFile, pointStart, pointFileLength, writePointsCheck, writePointsAnswer, writePointsLeaves}
-use Rattle.rules.specs.Laws.Checks.{then-assoc}
-use Rattle.survey.specs.Passed.{Bounded, head-passed, cellsAt-most, cellsAt-shifted}
-use Rattle.point_file.specs.Told.{headBytes, recordOf}
+use Rattle.rules.specs.Calls.{surveyCheck, pointsCheck}
+use Rattle.rules.specs.PointFile.{PH, pointFile, pointStart, pointFileLength, writePointsCheck, writePointsCall}
+use Rattle.rules.specs.Laws.Checks.{call-refused, call-accepted}
+use Rattle.rules.specs.Laws.Passed.{cellsAt-most, Surveyed, survey-passed}
+use Rattle.rules.specs.Laws.PointFile.{recordOf}
+use Rattle.survey.specs.Cells.{cellsAt-shifted}
+use Rattle.point_file.specs.Told.{headBytes}
 use Rattle.point_file.proofs.write_points.Statement.{statement}
 use Rattle.point_file.proofs.write_points.Tie as tie
 
-module _ (m0 n0 h : ℕ) (xs ys : List ℕ) (zs : List ℤ) where
-  -- the checks of survey::head
-  abbrev first : Check
-  first = cellsCheck 16 m0 n0 then levelsCountCheck h then listsCheck xs ys zs
+module _ (a : Shape) (s : Survey) (output : List ℕ) where
+  refusal : (r : Refusal) → writePointsCheck a s output ≡ some r → outcome (refused r) output ≡ writePointsCall a s output
+  unfolding writePointsCall
+  refusal r e = call-refused _ _ _ output r e
 
-  module _ (output : List ℕ) where
-    -- the answer, and what the output holds afterwards
-    abbrev Answered : Answer ℕ → List ℕ → Type 0
-    Answered told out =
-        (told ≡ writePointsAnswer (shape m0 n0 h) xs ys zs output) × (out ≡ writePointsLeaves (shape m0 n0 h) xs ys zs output)
+  at-head : (r : Refusal) → surveyCheck a s ≡ some r → outcome (refused r) output ≡ writePointsCall a s output
+  unfolding writePointsCheck _then_
+  at-head r e = refusal r (rw e)
 
-    abbrev rest : Check
-    rest =
-        require (leb (8 + 14 * length xs) (length output)) short
-        then pointsCheck 16 (columns (shape m0 n0 h) h) (rows (shape m0 n0 h) h) xs ys zs
+  module _ (passed : surveyCheck a s ≡ none) where
+    at-length : length output < 8 + 14 * pointCount s → outcome (refused short) output ≡ writePointsCall a s output
+    unfolding writePointsCheck pointFileLength pointStart require _then_
+    at-length l = refusal short (rw (passed, lt-leb _ _ l))
 
-    checks : writePointsCheck (shape m0 n0 h) xs ys zs output ≡ (first then rest)
-    unfolding writePointsCheck pointFileLength pointStart
-    checks =
-        sym
-        (then-assoc (cellsCheck 16 m0 n0) (levelsCountCheck h then listsCheck xs ys zs) rest
-        ∙ ap (λ d. cellsCheck 16 m0 n0 then d) (then-assoc (levelsCountCheck h) (listsCheck xs ys zs) rest))
+    module _ (l : 8 + 14 * pointCount s ≤ length output) where
+      at-point : (r : Refusal) → pointsCheck 16 (columns a (a .h)) (rows a (a .h)) s ≡ some r → outcome (refused r) output ≡ writePointsCall a s output
+      unfolding writePointsCheck pointFileLength pointStart require _then_
+      at-point r e = refusal r (rw (passed, le-leb _ _ l, e))
 
-    refusal : (r : Refusal) → (first then rest) ≡ some r → Answered (refused r) output
-    unfolding writePointsAnswer writePointsLeaves answer left
-    refusal r e = let f = checks ∙ e in (rw f, rw f)
+      written : {begun out : List ℕ} → pointsCheck 16 (columns a (a .h)) (rows a (a .h)) s ≡ none
+          → begun ≡ over (headBytes (a .m0) (a .n0) (a .h) (pointCount s)) output
+          → out ≡ laid 8 (joined (pointCount s) (recordOf s)) begun
+          → outcome (accepted (8 + 14 * pointCount s)) out ≡ writePointsCall a s output
+      unfolding writePointsCheck writePointsCall pointFile pointFileLength pointStart headBytes PH bytesOf require _then_
+      written e begins ends =
+          let records = joined (pointCount s) (recordOf s) in
+          let fine : writePointsCheck a s output ≡ none = rw (passed, le-leb _ _ l, e) in
+          let whole = ends ∙ ap (laid 8 records) begins ∙ laid-over (headBytes (a .m0) (a .n0) (a .h) (pointCount s)) records output in
+          rw whole (call-accepted _ _ _ output fine)
 
-    at-head : (r : Refusal) → first ≡ some r → Answered (refused r) output
-    unfolding _then_
-    at-head r e = refusal r (rw e)
+abbrev shaped : tie.Start → Shape
+shaped c = let a = c .args in shape (a .m0) (a .n0) (a .h)
 
-    module _ (passed : first ≡ none) where
-      at-length : length output < 8 + 14 * length xs → Answered (refused short) output
-      unfolding require _then_
-      at-length l = refusal short (rw (passed, lt-leb _ _ l))
+abbrev given : tie.Start → Survey
+given c = let a = c .args in survey (a .xs .now) (a .ys .now) (a .zs .now)
 
-      module _ (l : 8 + 14 * length xs ≤ length output) where
-        at-point : (r : Refusal) → pointsCheck 16 (columns (shape m0 n0 h) h) (rows (shape m0 n0 h) h) xs ys zs ≡ some r → Answered (refused r) output
-        unfolding require _then_
-        at-point r e = refusal r (rw (passed, le-leb _ _ l, e))
+module _ (c : tie.After-enum-told) where
+  abbrev start : tie.Start
+  start = c .before .before .before .before .before .before
 
-        written : {begun out : List ℕ} → pointsCheck 16 (columns (shape m0 n0 h) h) (rows (shape m0 n0 h) h) xs ys zs ≡ none
-            → begun ≡ over (headBytes m0 n0 h (length xs)) output
-            → out ≡ laid 8 (joined (length xs) (recordOf xs ys zs)) begun
-            → Answered (accepted (8 + 14 * length xs)) out
-        unfolding writePointsAnswer writePointsLeaves pointFile pointFileLength pointStart headBytes recordOf PH bytesOf require _then_ answer left
-        written e begins ends =
-            let records = joined (length xs) (recordOf xs ys zs) in
-            let f : writePointsCheck (shape m0 n0 h) xs ys zs output ≡ none = checks ∙ rw (passed, le-leb _ _ l, e) in
-            (rw f, rw f (ends ∙ ap (laid 8 records) begins ∙ laid-over (headBytes m0 n0 h (length xs)) records output))
+  passed : surveyCheck (shaped start) (given start) ≡ none
+  passed = sym (c .before .before .head .ensures) ∙ ap check (c .enum-told .given .1)
 
-passed : (c : tie.After-enum-told)
-    → let a = c .before .before .before .before .before .before .args in first (a .m0) (a .n0) (a .h) (a .xs .now) (a .ys .now) (a .zs .now) ≡ none
-passed c = sym (c .before .before .head .ensures) ∙ ap check (c .enum-told .given .1)
-
-bounded : (c : tie.After-enum-told)
-    → let a = c .before .before .before .before .before .before .args in Bounded (a .m0) (a .n0) (a .h) (a .xs .now) (a .ys .now) (a .zs .now)
-bounded c = head-passed _ _ _ _ _ _ (passed c)
+  surveyed : Surveyed (shaped start) (given start)
+  surveyed = survey-passed (shaped start) (given start) passed
 
 -- the code's shifted cell counts are those of level h
-module _ (m0 n0 h : ℕ) (xs ys : List ℕ) (zs : List ℤ) (b : Bounded m0 n0 h xs ys zs) where
-  at-level : pointsCheck 16 ((m0 * 2 ^ h) % 2 ^ 64) ((n0 * 2 ^ h) % 2 ^ 64) xs ys zs ≡ pointsCheck 16 (columns (shape m0 n0 h) h) (rows (shape m0 n0 h) h) xs ys zs
-  unfolding columns rows
-  at-level = rw (cellsAt-shifted m0 h (b .cells .1) (b .levels), cellsAt-shifted n0 h (b .cells .3) (b .levels))
+at-level : (a : Shape) (s : Survey) → Surveyed a s
+    → pointsCheck 16 ((a .m0 * 2 ^ a .h) % 2 ^ 64) ((a .n0 * 2 ^ a .h) % 2 ^ 64) s ≡ pointsCheck 16 (columns a (a .h)) (rows a (a .h)) s
+unfolding columns rows
+at-level a s b = rw (cellsAt-shifted (a .m0) (a .h) (b .sides .1) (b .levels-most), cellsAt-shifted (a .n0) (a .h) (b .sides .3) (b .levels-most))
 
 shifted-most : (m h : ℕ) → m ≤ 16 → h ≤ 5 → (m * 2 ^ h) % 2 ^ 64 ≤ 512
 shifted-most m h most-m most-h = rw (cellsAt-shifted m h most-m most-h) (cellsAt-most m h most-m most-h)
@@ -97,30 +84,30 @@ enum-known-r : tie.Need-enum-known-r
 enum-known-r c = search needs
 
 returns : tie.Need-returns
-returns c = at-head _ _ _ _ _ _ _ _ (sym (c .before .before .before .head .ensures) ∙ ap check (c .before .r .given .1))
+returns c = at-head _ (given (c .before .before .before .before .before .before .before)) _ _ (sym (c .before .before .before .head .ensures) ∙ ap check (c .before .r .given .1))
 
 enum-told : tie.Need-enum-told
 enum-told c = search needs
 
 mul-if1 : tie.Need-mul-if1
-mul-if1 c = omega (arith, bounded c .lists)
+mul-if1 c = omega (arith, surveyed c)
 
 add-if1 : tie.Need-add-if1
-add-if1 c = omega (arith, bounded c .lists)
+add-if1 c = omega (arith, surveyed c)
 
 returns-2 : tie.Need-returns-2
-returns-2 c = at-length _ _ _ _ _ _ _ (passed (c .before)) (c .if1 .taken)
+returns-2 c = at-length _ (given (start (c .before))) _ (passed (c .before)) (c .if1 .taken)
 
 shl-points : tie.Need-shl-points
-shl-points c = omega (arith, bounded (c .before) .levels)
+shl-points c = omega (arith, surveyed (c .before))
 
 shl-points-2 : tie.Need-shl-points-2
-shl-points-2 c = omega (arith, bounded (c .before) .levels)
+shl-points-2 c = omega (arith, surveyed (c .before))
 
 points-requires : tie.Need-points-requires
 points-requires c κs =
-    let b = bounded (c .before) in
-    (shifted-most _ _ (b .cells .1) (b .levels), shifted-most _ _ (b .cells .3) (b .levels), b .lists .0, b .lists .1)
+    let b = surveyed (c .before) in
+    (shifted-most _ _ (b .sides .1) (b .levels-most), shifted-most _ _ (b .sides .3) (b .levels-most), b .as-many-y, b .as-many-z)
 
 enum-known-r-2 : tie.Need-enum-known-r-2
 enum-known-r-2 c = search needs
@@ -129,21 +116,21 @@ returns-3 : tie.Need-returns-3
 returns-3 c =
     let q = c .before .before .before in
     let p = q .before in
-    at-point _ _ _ _ _ _ _ (passed (p .before)) (p .if1 .left) _
-    (sym (at-level _ _ _ _ _ _ (bounded (p .before))) ∙ sym (q .points .ensures) ∙ ap check (c .before .r2 .given .1))
+    at-point _ (given (start (p .before))) _ (passed (p .before)) (p .if1 .left) _
+    (sym (at-level _ _ (surveyed (p .before))) ∙ sym (q .points .ensures) ∙ ap check (c .before .r2 .given .1))
 
 enum-told-2 : tie.Need-enum-told-2
 enum-told-2 c = search needs
 
 put-head-requires : tie.Need-put-head-requires
 put-head-requires c κs =
-    let b = bounded (c .before .before .before .before .before) in
-    (omega (arith, b .cells), omega (arith, b .cells), omega (arith, b .levels), omega (arith, b .lists), omega arith)
+    let b = surveyed (c .before .before .before .before .before) in
+    (omega arith, omega arith, omega arith, omega arith, omega arith)
 
 put-points-requires : tie.Need-put-points-requires
 put-points-requires c κs =
-    let b = bounded (c .before .before .before .before .before .before .before .before .before) in
-    (b .lists .0, b .lists .1, omega arith)
+    let b = surveyed (c .before .before .before .before .before .before .before .before .before) in
+    (b .as-many-y, b .as-many-z, omega arith)
 
 mul-t14 : tie.Need-mul-t14
 mul-t14 c = search needs
@@ -161,8 +148,8 @@ returns-4 c =
     let told = begun .before .before in
     let q = told .before .before in
     let p = q .before in
-    written _ _ _ _ _ _ _ (passed (p .before)) (p .if1 .left)
-    (sym (at-level _ _ _ _ _ _ (bounded (p .before))) ∙ sym (q .points .ensures) ∙ ap check (told .enum-told2 .given .1))
+    written _ (given (start (p .before))) _ (passed (p .before)) (p .if1 .left)
+    (sym (at-level _ _ (surveyed (p .before))) ∙ sym (q .points .ensures) ∙ ap check (told .enum-told2 .given .1))
     (begun .put-head .ensures) (last .put-points .ensures)
 
 pub write-points-spec : {M : Type 1} → statement M

@@ -1,30 +1,33 @@
 -- `raster::raster_within` meets its contract. The loop's invariant: the columns before this one have their heights in every row.
-use mathlib.Core.Path.{_≡_}
+use mathlib.Core.Path.{_≡_, refl}
 use Prim.Native.Nat.{_-_, _≤_}
 use native.Mathlib.Nat.{not-suc-le-zero}
 use native.Mathlib.Omega.{arith}
 use borrow.Author.Needs.{needs}
 use Rattle.raster.specs.Strips.{Striped}
 use Rattle.raster.proofs.Stripes.{unchanged, strip-more}
-use Rattle.raster.proofs.Within.{gridHeight, start-fits, strip-ready, strip-room, strip-heights, all-nodes, no-nodes}
+use Rattle.raster.proofs.Within.{gridHeight, strip-inside, strip-room, all-nodes, no-nodes}
 use Rattle.raster.proofs.raster_within.Statement.{statement}
 use Rattle.raster.proofs.raster_within.Tie as tie
 
 abbrev Inv-loop : tie.InvT-loop
-Inv-loop m n e lattice x0 y0 step columns rows output₀ unit column₀ output column =
-    (column ≤ columns) × Striped columns rows 0 column (gridHeight m n e lattice x0 y0 step) output₀ output
+Inv-loop m n e lattice x0 y0 step columns rows output₀ unit by column₀ output column =
+    (column ≤ columns) × Striped columns rows 0 column (gridHeight m n e lattice x0 y0 by) output₀ output
 
 abbrev μ-loop : tie.MeasureT-loop
-μ-loop m n e lattice x0 y0 step columns rows output₀ unit column₀ output column = columns - column
+μ-loop m n e lattice x0 y0 step columns rows output₀ unit by column₀ output column = columns - column
 
 returns : tie.Need-returns Inv-loop μ-loop
-returns c = no-nodes _ _ _ _ _ _ _ _ _ _ (c .if1 .taken)
+returns c = no-nodes _ _ _ _ (c .if1 .taken)
 
 shl-unit : tie.Need-shl-unit Inv-loop μ-loop
-shl-unit c = omega (arith, c .before .pre .0 .exponent)
+shl-unit c = omega (arith, c .before .pre .ground .grid .e-most)
+
+step-of-requires : tie.Need-step-of-requires Inv-loop μ-loop
+step-of-requires c κs = search needs
 
 loop-holds : tie.Need-loop-holds Inv-loop μ-loop
-loop-holds c = (omega arith, unchanged _ _ _ _ _ _ (λ j i h k. not-suc-le-zero k))
+loop-holds c = (omega arith, unchanged _ _ _ _ _ _ (λ j c h k n. not-suc-le-zero n))
 
 sub-lesser : tie.Need-sub-lesser Inv-loop μ-loop
 sub-lesser c = omega arith
@@ -32,42 +35,35 @@ sub-lesser c = omega arith
 lesser-requires : tie.Need-lesser-requires Inv-loop μ-loop
 lesser-requires c κs = search needs
 
-mul-t18 : tie.Need-mul-t18 Inv-loop μ-loop
-mul-t18 c = let s = c .before .before .before .before in omega (arith, start-fits (s .pre .0) (s .pre .1 .0) (omega arith) _ (c .before .loop-test .taken) (c .lesser .ensures))
-
-add-t19 : tie.Need-add-t19 Inv-loop μ-loop
-add-t19 c = let s = c .before .before .before .before in omega (arith, start-fits (s .pre .0) (s .pre .1 .0) (omega arith) _ (c .before .loop-test .taken) (c .lesser .ensures))
-
 whole-strip-requires : tie.Need-whole-strip-requires Inv-loop μ-loop
 whole-strip-requires c κs =
-    let p = c .before .before .before in
-    let s = p .before .before in
+    let t = c .before .before .before in
+    let p = t .before in
+    let s = p .before .before .pre in
     let l = c .before .before .loop-test .taken in
     let w = c .before .lesser .ensures in
-    (strip-ready (s .pre .0) (s .pre .1 .0) (omega arith) _ l w, strip-room (s .pre .0) (s .pre .1 .0) (omega arith) _ l w _ (rw (p .loop .inv .1 .same-length) (s .pre .1 .1)))
+    (strip-inside s (p .step-of .ensures) (omega arith) _ l w, s .ground, strip-room s (p .step-of .ensures) (omega arith) _ l w (t .loop .inv .1 .same-length))
 
 add-column : tie.Need-add-column Inv-loop μ-loop
-add-column c = omega (arith, c .before .before .before .lesser .ensures, c .before .before .before .before .before .before .before .fits .columns)
+add-column c = omega (arith, c .before .before .before .lesser .ensures, c .before .before .before .before .before .before .before .before .fits .columns)
 
 loop-less : tie.Need-loop-less Inv-loop μ-loop
 loop-less c = omega (arith, c .before .before .before .lesser .ensures, c .before .before .before .before .loop-test .taken)
 
 loop-again : tie.Need-loop-again Inv-loop μ-loop
 loop-again c =
-    let p = c .before .before .before .before .before in
-    let s = p .before .before in
-    let l = c .before .before .before .before .loop-test .taken in
-    let w = c .before .before .before .lesser .ensures in
-    (omega arith, strip-more _ _ _ _ _ (omega arith) (strip-heights (s .pre .0) (s .pre .1 .0) (omega arith) _ l w) (p .loop .inv .1) (c .before .whole-strip .ensures))
+    let t = c .before .before .before .before .before in
+    (omega arith, strip-more _ _ _ _ _ (omega arith) (t .loop .inv .1) (c .before .whole-strip .ensures))
 
 same-length : tie.Need-same-length Inv-loop μ-loop
 same-length c = c .before .loop .inv .1 .same-length
 
 returns-2 : tie.Need-returns-2 Inv-loop μ-loop
 returns-2 c =
-    let s = c .before .before .before in
+    let p = c .before .before in
+    let s = p .before .before in
     let last : c .before .loop .column ≡ s .args .columns = omega arith in
-    all-nodes _ _ _ _ _ _ _ _ _ (s .pre .1 .1) (rw last at (c .before .loop .inv .1))
+    all-nodes (s .pre) (p .step-of .ensures) refl (rw last at (c .before .loop .inv .1))
 
 pub raster-within-spec : {M : Type 1} → statement M
 raster-within-spec =
@@ -77,11 +73,10 @@ raster-within-spec =
     μ-loop
     returns
     shl-unit
+    step-of-requires
     loop-holds
     sub-lesser
     lesser-requires
-    mul-t18
-    add-t19
     whole-strip-requires
     add-column
     loop-less

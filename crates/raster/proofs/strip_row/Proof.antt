@@ -8,10 +8,10 @@ use lib.ListN.{length, take, drop, length-take, length-drop}
 use borrow.Author.Needs.{needs}
 use Rattle.algebra.specs.Table.{length-tabulate, laid-part}
 use Rattle.heights.specs.Reading.{Located}
+use Rattle.heights.specs.Sums.{basis-asked}
 use Rattle.heights.specs.declared.Spot.{Spot}
-use Rattle.raster.specs.Strips.{Ready, Tapped, Ringed, RowReady, nodeAt}
-use Rattle.raster.proofs.Columns.{unit-asked}
-use Rattle.raster.proofs.Row.{row-fits, on-row, below, rows-ready, from-most, from-ringed, ring-in-range, ringed-all, row-weight, row-filled}
+use Rattle.raster.specs.Strips.{Ringed, RowDue, nodeAt}
+use Rattle.raster.proofs.Row.{row-fits, on-row, below, from-most, from-ringed, ring-in-range, row-weight, row-filled}
 use Rattle.raster.proofs.strip_row.Statement.{statement}
 use Rattle.raster.proofs.strip_row.Tie as tie
 
@@ -25,30 +25,24 @@ module _ (d : tie.After-basis-of) where
   spot = d .before .before .before .before .locate .result
 
   abbrev after : List ℤ
-  after = d .before .advance .last .1 .1 .1 .1 .1 .1 .1 .1 .0
+  after = d .before .advance .last .1 .1 .1 .1 .1 .1 .0
 
-  ready : Ready (start .args .s) (start .args .lattice .now)
-  ready = start .pre .0 .0
-
-  tapped : Tapped (start .args .s) (start .args .s .w) (start .args .cells .now) (start .args .taps .now)
-  tapped = start .pre .0 .1
-
-  row : RowReady (start .args .s) (start .args .j) (start .args .next) (start .args .lattice .now) (start .args .cells .now) (start .args .taps .now) (start .args .ring .now) (length (start .args .output .now))
-  row = start .pre .1
+  row : RowDue (start .args .s) (start .args .j) (start .args .next) (start .args .lattice .now) (start .args .cells .now) (start .args .taps .now) (start .args .ring .now) (length (start .args .output .now))
+  row = start .pre
 
   found : Located spot (2 ^ start .args .s .e) (start .args .s .n) (start .args .s .y0 + start .args .s .step * start .args .j)
   found = d .before .before .before .before .locate .ensures
 
-  has : Ringed (start .args .s .m) (start .args .s .e) (start .args .s .w) (start .args .lattice .now) (start .args .cells .now) (start .args .taps .now) (spot .cell) (spot .cell + 4) after
-  has = d .before .advance .ensures .1 (spot .cell) (from-ringed row ready tapped found (d .before .before .before .greater .ensures))
+  has : Ringed (start .args .s) (start .args .lattice .now) (spot .cell + 4) (spot .cell + 4) after
+  has = d .before .advance .ensures
 
 -- ---- the needs
 
 mul-locate : tie.Need-mul-locate
-mul-locate c = let s = c .before in omega (arith, row-fits (s .pre .1) (s .pre .0 .0) (s .pre .0 .1))
+mul-locate c = let s = c .before in omega (arith, row-fits (s .pre))
 
 add-locate : tie.Need-add-locate
-add-locate c = let s = c .before .before in omega (arith, row-fits (s .pre .1) (s .pre .0 .0) (s .pre .0 .1))
+add-locate c = let s = c .before .before in omega (arith, row-fits (s .pre))
 
 locate-requires : tie.Need-locate-requires
 locate-requires c κs = search needs
@@ -59,32 +53,31 @@ greater-requires c κs = search needs
 add-last : tie.Need-add-last
 add-last c =
     let s = c .before .before .before .before in
-    omega (arith, below (s .pre .1) (s .pre .0 .0) (s .pre .0 .1) (c .before .locate .ensures), s .pre .0 .0 .ground .rows-most)
+    omega (arith, below (s .pre) (c .before .locate .ensures), s .pre .strip .columns .grid .n-most)
 
 advance-requires : tie.Need-advance-requires
 advance-requires c κs =
-    let s = c .before .before .before .before .before in
+    let s = c .before .before .before .before .before .pre in
     let at = c .before .before .locate .ensures in
-    let g = s .pre .0 .0 in
-    (g .ground .columns-most, g .columns .width, rw (c .before .greater .ensures) (from-most (s .pre .1) g (s .pre .0 .1) at), s .pre .1 .whole, rows-ready (s .pre .1) g (s .pre .0 .1) at)
+    let from = c .before .greater .ensures in
+    (s .strip, rw from (from-most s at), omega (arith, below s at), from-ringed s at from)
 
 basis-of-requires : tie.Need-basis-of-requires
 basis-of-requires c κs =
-    let s = c .before .before .before .before .before .before in
-    let g = s .pre .0 .0 in
-    unit-asked (g .columns .unit-is) (on-row (s .pre .1) g (s .pre .0 .1)) (c .before .before .before .locate .ensures)
+    let s = c .before .before .before .before .before .before .pre in
+    basis-asked (s .strip .columns .unit-is) (on-row s) (c .before .before .before .locate .ensures)
 
 mul-start : tie.Need-mul-start
-mul-start c = let s = c .before .before .before .before .before .before .before .before in omega (arith, s .pre .1 .fits, s .good)
+mul-start c = let s = c .before .before .before .before .before .before .before .before in omega (arith, s .pre .fits, s .good)
 
 add-start : tie.Need-add-start
-add-start c = let s = c .before .before .before .before .before .before .before .before .before in omega (arith, s .pre .1 .fits, s .good)
+add-start c = let s = c .before .before .before .before .before .before .before .before .before in omega (arith, s .pre .fits, s .good)
 
 add-end : tie.Need-add-end
-add-end c = let s = c .before .before .before .before .before .before .before .before .before .before in omega (arith, s .pre .1 .fits, s .good)
+add-end c = let s = c .before .before .before .before .before .before .before .before .before .before in omega (arith, s .pre .fits, s .good)
 
 mul-node-row : tie.Need-mul-node-row
-mul-node-row c = let s = c .before .before .before .before .before .before .before .before .before .before .before in omega (arith, s .pre .1 .fits, s .good)
+mul-node-row c = let s = c .before .before .before .before .before .before .before .before .before .before .before in omega (arith, s .pre .fits, s .good)
 
 sub-node-row : tie.Need-sub-node-row
 sub-node-row c = search needs
@@ -93,19 +86,18 @@ part-node-row-start : tie.Need-part-node-row-start
 part-node-row-start c = search needs
 
 part-node-row-end : tie.Need-part-node-row-end
-part-node-row-end c = let s = c .before .before .before .before .before .before .before .before .before .before .before in omega (arith, s .pre .1 .fits, s .good)
+part-node-row-end c = let s = c .before .before .before .before .before .before .before .before .before .before .before in omega (arith, s .pre .fits, s .good)
 
 node-row-requires : tie.Need-node-row-requires
 node-row-requires c κs =
     let d = c .before .before .before .before .before in
-    let s = start d in
-    let g = ready d in (
-      omega (arith, below (row d) g (tapped d) (found d), g .ground .rows-most),
-      g .ground .exponent,
-      row-weight (row d) g (tapped d) (found d) (after d) (has d) (d .basis-of .ensures),
-      g .columns .width,
+    let g = row d .strip .columns in (
+      omega (arith, below (row d) (found d), g .grid .n-most),
+      g .grid .e-most,
+      row-weight (row d) (found d) (after d) (has d) (d .basis-of .ensures),
+      g .width,
       simp (length-take, length-drop) (omega (arith, row d .fits)),
-      ring-in-range (row d) g (tapped d) (found d) (after d) (has d),
+      ring-in-range (row d) (found d) (after d) (has d),
     )
 
 same-length : tie.Need-same-length
@@ -119,12 +111,11 @@ returns c =
     let w = s .s .w in
     record {
       next-is = ap (λ k. k + 4) (found d .cell-is);
-      whole = d .before .advance .ensures .0;
-      ringed = ringed-all (row d) (ready d) (tapped d) (found d) (after d) (has d);
+      ringed = has d;
       filled =
           ap (λ l. take n (s .output .now) ++ (l ++ drop (n + w - n) (drop n (s .output .now)))) (c .before .node-row .ensures)
           ∙ laid-part n (n + w - n) _ _ (rw (length-tabulate w (nodeAt (s .s .e) (d .basis-of .result) (after d) (spot d .cell))) (omega arith)) (omega (arith, row d .fits))
-          ∙ row-filled (row d) (ready d) (tapped d) (found d) (after d) (has d) (d .basis-of .ensures) _ _;
+          ∙ row-filled (row d) (found d) (after d) (has d) (d .basis-of .ensures) _ _;
     }
 
 pub strip-row-spec : {M : Type 1} → statement M

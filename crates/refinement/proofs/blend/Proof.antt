@@ -1,19 +1,13 @@
 -- `refinement::blend` meets its contract. The loop's invariant: the sums of the columns passed lie over the first places of sums.
-use mathlib.Core.Path.{_≡_, refl, sym, _∙_}
-use mathlib.Core.List.{List}
-use Prim.Native.Nat.{ℕ, _+_, _-_, _*_, _/_, _%_, _≤_, _<_}
+use mathlib.Core.Path.{_≡_, sym, _∙_}
+use Prim.Native.Nat.{_+_, _-_, _≤_}
 use native.Mathlib.Omega.{arith}
-use lib.IntN.{ℤ, pos}
-use lib.ListN.{getD}
-use mir.Syntax.{w64}
-use mir.Val.{toZ, ofZ}
+use lib.IntN.{pos}
 use Rattle.algebra.specs.Table.{tabulate, over, fill-store, over-none}
-use Rattle.machine.specs.Held.{Held, itself, read}
 use Rattle.machine.specs.Tests.{plain}
 use Rattle.rules.specs.Grid.{control}
 use Rattle.rules.specs.Refinement as rule
-use Rattle.rules.specs.Laws.Surface.{control-size}
-use Rattle.refinement.proofs.Weighed.{Weighed, asked, learnt}
+use Rattle.refinement.proofs.Weighed.{asked, learnt, column-weighed}
 use Rattle.refinement.proofs.blend.Statement.{statement}
 use Rattle.refinement.proofs.blend.Tie as tie
 
@@ -22,41 +16,6 @@ Inv-loop m lattice t sums₀ w odd a b c s₀ sums s = (s ≤ m + 3) × (sums �
 
 abbrev μ-loop : tie.MeasureT-loop
 μ-loop m lattice t sums₀ w odd a b c s₀ sums s = m + 3 - s
-
--- ---- the values that a turn weighs
-
-module _ (c : tie.In-loop Inv-loop μ-loop) where
-  abbrev m : ℕ
-  m = c .before .before .args .m
-
-  abbrev lattice : List ℤ
-  lattice = c .before .before .args .lattice .now
-
-  abbrev odd : ℕ
-  odd = c .before .before .args .t % 2
-
-  abbrev r : ℕ
-  r = c .before .before .args .t / 2
-
-  abbrev s : ℕ
-  s = c .before .loop .s
-
-  abbrev at : ℕ → ℤ
-  at i = toZ w64 (ofZ w64 (getD lattice i (pos 0)))
-
-  -- the control value of row q, read at its place
-  value : (q i : ℕ) → q < r + odd + 2 → i ≡ q * (m + 3) + s → Held (at i) (control m lattice s q) 32_000_000_000
-  unfolding control
-  value q i k e =
-      rw e (read tt (itself (control m lattice s q) 32_000_000_000 (omega (arith, control-size m (r + odd + 2) s q lattice (c .before .before .pre .1 .ranged) (c .loop-test .taken) k))))
-
-  values : Weighed odd r (control m lattice s) (at (r * (m + 3) + s)) (at (r * (m + 3) + (m + 3) + s)) (at (r * (m + 3) + (m + 3) + odd * (m + 3) + s))
-  values = record {
-    two = omega arith;
-    first = value r (r * (m + 3) + s) (omega arith) refl;
-    second = value (r + 1) (r * (m + 3) + (m + 3) + s) (omega arith) (omega arith);
-    third = value (r + 1 + odd) (r * (m + 3) + (m + 3) + odd * (m + 3) + s) (omega arith) (omega arith);
-  }
 
 -- ---- the needs, the next sum first
 
@@ -67,7 +26,7 @@ loop-again c =
     let a = l .before .args in (
       omega arith,
       fill-store (l .loop .s) (λ s. rule.finer (control (a .m) (a .lattice .now) s) (a .t)) (a .sums .now) (pos 0) (omega arith) (l .loop .inv .1)
-          (plain (c .masked .result) (c .masked .ok) ∙ c .masked .ensures ∙ learnt (values (c .before .before .before .before))),
+          (plain (c .masked .result) (c .masked .ok) ∙ c .masked .ensures ∙ learnt (column-weighed (l .loop .s) (l .before .pre .1) (c .before .before .before .before .loop-test .taken))),
     )
 
 add-w : tie.Need-add-w Inv-loop μ-loop
@@ -117,7 +76,9 @@ shared-slice-copy-out-masked-3 : tie.Need-shared-slice-copy-out-masked-3 Inv-loo
 shared-slice-copy-out-masked-3 c = omega arith
 
 masked-requires : tie.Need-masked-requires Inv-loop μ-loop
-masked-requires c κs = asked (values (c .before .before .before))
+masked-requires c κs =
+    let i = c .before .before .before in
+    asked (column-weighed (i .before .loop .s) (i .before .before .pre .1) (i .loop-test .taken))
 
 mul-t26 : tie.Need-mul-t26 Inv-loop μ-loop
 mul-t26 c = omega arith

@@ -1,60 +1,36 @@
 -- `refinement::refine` meets its contract: each refusal is the first check that fails, and behind the last check the lattice can be refined.
-use mathlib.Core.Path.{_≡_, refl, sym, ap, _∙_}
-use mathlib.Core.Option.{none, some}
+use mathlib.Core.Path.{_≡_, ap, _∙_}
+use mathlib.Core.Bool.{_&&_}
+use mathlib.Core.Option.{none}
 use mathlib.Core.List.{List}
-use Prim.Native.Nat.{ℕ, _+_, _*_, _≤_, _<_}
+use Prim.Native.Nat.{ℕ, _+_, _*_, _≤_}
 use native.Mathlib.Nat.{mul-le-mul-right}
 use native.Mathlib.Omega.{arith}
 use borrow.Author.Needs.{needs}
 use borrow.Author.Tests.{lt-leb, le-leb}
+use lib.Dec.{leb}
 use lib.IntN.{ℤ}
 use lib.ListN.{length}
-use Rattle.algebra.specs.Table.{over}
-use Rattle.rules.specs.Answers.{Refusal, short, require, _then_, accepted, refused, answer, left}
-use Rattle.rules.specs.Grid.{controls, control, store}
-use Rattle.rules.specs.Refinement.{refined}
-use Rattle.rules.specs.Calls.{cellsCheck, latticeCheck, refineCheck, refineAnswer, refineLeaves}
-use Rattle.answers.specs.Cause.{check}
-use Rattle.checks.specs.Passed.{cells-passed, lattice-passed}
+use Rattle.rules.specs.Answers.{short, require, _then_, outcome}
+use Rattle.rules.specs.Grid.{controls}
+use Rattle.rules.specs.Calls.{cellsCheck, latticeCheck, refineCheck, refineCall}
+use Rattle.rules.specs.Laws.Checks.{then-none, then-some, call-refused, call-accepted}
+use Rattle.rules.specs.Laws.Passed.{cells-passed, lattice-passed}
+use Rattle.answers.specs.Cause.{found}
 use Rattle.refinement.proofs.refine.Statement.{statement}
 use Rattle.refinement.proofs.refine.Tie as tie
 
--- ---- the answer and the output at each check
+-- ---- the checks, as far as they have passed
 
-module _ (m n : ℕ) (l o : List ℤ) where
-  -- a refusal leaves the output
-  leaves : (r : Refusal) → refused r ≡ refineAnswer m n l o → (refused r ≡ refineAnswer m n l o) × (o ≡ refineLeaves m n l o)
-  unfolding refineLeaves left
-  leaves r e = (e, rw (← e) refl)
+module _ (m n : ℕ) (l o : List ℤ) (cells : cellsCheck 256 m n ≡ none) where
+  lengths : refineCheck m n l o
+      ≡ (require (leb ((m + 3) * (n + 3)) (length l) && leb ((2 * m + 3) * (2 * n + 3)) (length o)) short then latticeCheck m n l)
+  unfolding refineCheck controls
+  lengths = then-none _ _ cells
 
-  refused-cells : (r : Refusal) → cellsCheck 256 m n ≡ some r → refused r ≡ refineAnswer m n l o
-  unfolding refineAnswer refineCheck answer _then_
-  refused-cells r e = rw e
-
-  module _ (cells : cellsCheck 256 m n ≡ none) where
-    refused-lattice-short : length l < (m + 3) * (n + 3) → refused short ≡ refineAnswer m n l o
-    unfolding refineAnswer refineCheck answer _then_ require controls
-    refused-lattice-short h = rw (cells, lt-leb ((m + 3) * (n + 3)) (length l) h)
-
-    module _ (long : (m + 3) * (n + 3) ≤ length l) where
-      refused-output-short : length o < (2 * m + 3) * (2 * n + 3) → refused short ≡ refineAnswer m n l o
-      unfolding refineAnswer refineCheck answer _then_ require controls
-      refused-output-short h = rw (cells, le-leb ((m + 3) * (n + 3)) (length l) long, lt-leb ((2 * m + 3) * (2 * n + 3)) (length o) h)
-
-      module _ (room : (2 * m + 3) * (2 * n + 3) ≤ length o) where
-        refused-lattice : (r : Refusal) → latticeCheck m n l ≡ some r → refused r ≡ refineAnswer m n l o
-        unfolding refineAnswer refineCheck answer _then_ require controls
-        refused-lattice r e = rw (cells, le-leb ((m + 3) * (n + 3)) (length l) long, le-leb ((2 * m + 3) * (2 * n + 3)) (length o) room, e)
-
-        accepted-cells : latticeCheck m n l ≡ none → accepted (record { m = 2 * m; n = 2 * n }) ≡ refineAnswer m n l o
-        unfolding refineAnswer refineCheck answer _then_ require controls
-        accepted-cells e = rw (cells, le-leb ((m + 3) * (n + 3)) (length l) long, le-leb ((2 * m + 3) * (2 * n + 3)) (length o) room, e)
-
-  -- an accepted refinement leaves the new values
-  filled : {v : List ℤ} → v ≡ over (store (2 * m) (2 * n) (refined (control m l))) o → accepted (record { m = 2 * m; n = 2 * n }) ≡ refineAnswer m n l o
-      → (accepted (record { m = 2 * m; n = 2 * n }) ≡ refineAnswer m n l o) × (v ≡ refineLeaves m n l o)
-  unfolding refineLeaves left
-  filled p e = (e, p ∙ rw (← e) refl)
+  last : (m + 3) * (n + 3) ≤ length l → (2 * m + 3) * (2 * n + 3) ≤ length o → refineCheck m n l o ≡ latticeCheck m n l
+  unfolding _then_ require
+  last long room = lengths ∙ rw (le-leb ((m + 3) * (n + 3)) (length l) long, le-leb ((2 * m + 3) * (2 * n + 3)) (length o) room)
 
 -- ---- what is known behind each check
 
@@ -63,7 +39,7 @@ module _ (c : tie.After-enum-told) where
   start = c .before .before .before
 
   cells-none : cellsCheck 256 (start .args .m) (start .args .n) ≡ none
-  cells-none = sym (c .before .before .cells .ensures) ∙ ap check (c .enum-told .given .1)
+  cells-none = found (c .before .before .cells .ensures) (c .enum-told .given .1)
 
   sides : (1 ≤ start .args .m) × (start .args .m ≤ 256) × (1 ≤ start .args .n) × (start .args .n ≤ 256)
   sides = cells-passed 256 (start .args .m) (start .args .n) cells-none
@@ -73,7 +49,7 @@ module _ (c : tie.After-enum-told2) where
   passed = c .before .before .before
 
   lattice-none : latticeCheck (start (passed .before .before) .args .m) (start (passed .before .before) .args .n) (start (passed .before .before) .args .lattice .now) ≡ none
-  lattice-none = sym (c .before .before .lattice .ensures) ∙ ap check (c .enum-told2 .given .1)
+  lattice-none = found (c .before .before .lattice .ensures) (c .enum-told2 .given .1)
 
 -- ---- the needs
 
@@ -84,7 +60,8 @@ enum-known-r : tie.Need-enum-known-r
 enum-known-r c = search needs
 
 returns : tie.Need-returns
-returns c = leaves _ _ _ _ _ (refused-cells _ _ _ _ _ (sym (c .before .before .before .cells .ensures) ∙ ap check (c .before .r .given .1)))
+unfolding refineCall refineCheck
+returns c = call-refused _ _ _ _ _ (then-some _ _ (found (c .before .before .before .cells .ensures) (c .before .r .given .1)))
 
 enum-told : tie.Need-enum-told
 enum-told c = search needs
@@ -101,7 +78,8 @@ mul-if1 c =
     omega (arith, sides c, mul-le-mul-right (start c .args .n + 3) h)
 
 returns-2 : tie.Need-returns-2
-returns-2 c = leaves _ _ _ _ _ (refused-lattice-short _ _ _ _ (cells-none (c .before)) (c .if1 .taken))
+unfolding refineCall _then_ require
+returns-2 c = call-refused _ _ _ _ _ (lengths _ _ _ _ (cells-none (c .before)) ∙ rw (lt-leb _ _ (c .if1 .taken)))
 
 mul-if2 : tie.Need-mul-if2
 mul-if2 c = search needs
@@ -119,7 +97,8 @@ mul-if2-3 : tie.Need-mul-if2-3
 mul-if2-3 c = search needs
 
 returns-3 : tie.Need-returns-3
-returns-3 c = leaves _ _ _ _ _ (refused-output-short _ _ _ _ (cells-none (c .before .before)) (c .before .if1 .left) (c .if2 .taken))
+unfolding refineCall _then_ require
+returns-3 c = call-refused _ _ _ _ _ (lengths _ _ _ _ (cells-none (c .before .before)) ∙ rw (le-leb _ _ (c .before .if1 .left), lt-leb _ _ (c .if2 .taken)))
 
 lattice-requires : tie.Need-lattice-requires
 unfolding controls
@@ -129,10 +108,11 @@ enum-known-r-2 : tie.Need-enum-known-r-2
 enum-known-r-2 c = search needs
 
 returns-4 : tie.Need-returns-4
+unfolding refineCall
 returns-4 c =
     let p = c .before .before .before .before in
-    leaves _ _ _ _ _
-    (refused-lattice _ _ _ _ (cells-none (p .before .before)) (p .before .if1 .left) (p .if2 .left) _ (sym (c .before .before .before .lattice .ensures) ∙ ap check (c .before .r2 .given .1)))
+    call-refused _ _ _ _ _
+    (last _ _ _ _ (cells-none (p .before .before)) (p .before .if1 .left) (p .if2 .left) ∙ found (c .before .before .before .lattice .ensures) (c .before .r2 .given .1))
 
 enum-told-2 : tie.Need-enum-told-2
 enum-told-2 c = search needs
@@ -154,10 +134,12 @@ same-length : tie.Need-same-length
 same-length c = search needs
 
 returns-5 : tie.Need-returns-5
+unfolding refineCall
 returns-5 c =
-    let p = passed (c .before .before .before) in
-    filled _ _ _ _ (c .before .refine-within .ensures)
-    (accepted-cells _ _ _ _ (cells-none (p .before .before)) (p .before .if1 .left) (p .if2 .left) (lattice-none (c .before .before .before)))
+    let told = c .before .before .before in
+    let p = passed told in
+    ap (outcome _) (c .before .refine-within .ensures)
+    ∙ call-accepted _ _ _ _ (last _ _ _ _ (cells-none (p .before .before)) (p .before .if1 .left) (p .if2 .left) ∙ lattice-none told)
 
 pub refine-spec : {M : Type 1} → statement M
 refine-spec =

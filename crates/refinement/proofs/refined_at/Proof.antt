@@ -1,35 +1,23 @@
 -- `refinement::refined_at` meets its contract: the sums that it reads are those of the mask, and their weighed sum is small enough to round.
 use mathlib.Core.Path.{_≡_, ap, _∙_}
-use Prim.Native.Nat.{ℕ, _+_, _≤_}
+use Prim.Native.Nat.{ℕ}
 use native.Mathlib.Omega.{arith}
 use borrow.Author.Needs.{needs}
 use lib.IntN.{ℤ, pos}
 use lib.ListN.{getD}
 use mir.Syntax.{w64}
 use mir.Val.{toZ, ofZ}
-use Rattle.machine.specs.Held.{Held, itself, read}
 use Rattle.machine.specs.Tests.{plain}
 use Rattle.rules.specs.Rounding.{near}
 use Rattle.rules.specs.Refinement as rule
 use Rattle.rules.specs.Laws.TwoScale.{masked-size}
-use Rattle.refinement.proofs.Weighed.{Weighed, asked, learnt}
+use Rattle.refinement.proofs.Weighed.{asked, learnt, weighed}
 use Rattle.refinement.proofs.refined_at.Statement.{statement}
 use Rattle.refinement.proofs.refined_at.Tie as tie
 
--- ---- the sums that it weighs
-
-module _ (c : tie.Start) where
-  abbrev at : ℕ → ℤ
-  at i = getD (c .args .sums .now) i (pos 0)
-
-  abbrev read-at : ℕ → ℤ
-  read-at i = toZ w64 (ofZ w64 (at i))
-
-  value : (i : ℕ) → i ≤ c .args .c + 1 + c .args .odd → Held (read-at i) (at i) 32_000_000_000
-  value i h = read tt (itself (at i) 32_000_000_000 (c .pre .2 i h))
-
-  three : Weighed (c .args .odd) (c .args .c) at (read-at (c .args .c)) (read-at (c .args .c + 1)) (read-at (c .args .c + 1 + c .args .odd))
-  three = record { two = c .pre .0; first = value (c .args .c) (omega arith); second = value (c .args .c + 1) (omega arith); third = value (c .args .c + 1 + c .args .odd) (omega arith) }
+-- the sums that it weighs
+abbrev at : tie.Start → ℕ → ℤ
+at c i = getD (c .args .sums .now) i (pos 0)
 
 -- ---- the needs
 
@@ -61,7 +49,9 @@ element-copy-out-masked-3 : tie.Need-element-copy-out-masked-3
 element-copy-out-masked-3 c = search needs
 
 masked-requires : tie.Need-masked-requires
-masked-requires c κs = asked (three (c .before .before .before))
+masked-requires c κs =
+    let s = c .before .before .before in
+    asked (weighed (s .args .odd) (s .args .c) (at s) (s .pre .0) (s .pre .2))
 
 -- what `masked` gave
 module _ (c : tie.After-masked) where
@@ -69,15 +59,15 @@ module _ (c : tie.After-masked) where
   start = c .before .before .before .before
 
   sum : toZ w64 (ofZ w64 (c .masked .result)) ≡ rule.masked (start .args .odd) (at start) (start .args .c)
-  sum = plain (c .masked .result) (c .masked .ok) ∙ c .masked .ensures ∙ learnt (three start)
+  sum = plain (c .masked .result) (c .masked .ok) ∙ c .masked .ensures ∙ learnt (weighed (start .args .odd) (start .args .c) (at start) (start .pre .0) (start .pre .2))
 
-near-64-requires : tie.Need-near-64-requires
-near-64-requires c κs =
+near-shift-requires : tie.Need-near-shift-requires
+near-shift-requires c κs =
     let s = start c in
-    rw (sum c) (masked-size (s .args .odd) (at s) (s .args .c) 32_000_000_000 (s .pre .2))
+    (rw (sum c) (omega (arith, masked-size (s .args .odd) (at s) (s .args .c) 32_000_000_000 (s .pre .2))), omega arith, omega arith)
 
 returns : tie.Need-returns
-returns c = plain (c .near-64 .result) (c .near-64 .ok) ∙ c .near-64 .ensures ∙ ap (λ v. near v 64) (sum (c .before))
+returns c = plain (c .near-shift .result) (c .near-shift .ok) ∙ c .near-shift .ensures ∙ ap (λ v. near v 64) (sum (c .before))
 
 pub refined-at-spec : {M : Type 1} → statement M
 refined-at-spec =
@@ -93,5 +83,5 @@ refined-at-spec =
     mul-masked-3
     element-copy-out-masked-3
     masked-requires
-    near-64-requires
+    near-shift-requires
     returns)

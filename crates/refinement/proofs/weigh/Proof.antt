@@ -6,7 +6,7 @@ use native.Mathlib.Omega.{arith}
 use borrow.Author.Needs.{needs}
 use lib.IntN.{ℤ, pos, natAbs, _+ℤ_, _*ℤ_}
 use lib.ListN.{getD}
-use Rattle.algebra.specs.Solver.{var, con, _⊕_, _⊗_, solve}
+use Rattle.algebra.specs.Solver.{var, con, _⊞_, _⊠_, solve}
 use Rattle.machine.specs.Held.{Number, number, itself, read, plus, times, fits}
 use Rattle.rules.specs.Refinement as rule
 use Rattle.refinement.proofs.weigh.Statement.{statement}
@@ -27,11 +27,11 @@ mask : (odd : ℕ) (a b c : ℤ) → odd < 2
 unfolding rule.masked
 mask zero a b c h =
     let four = con (pos 4) in
-    solve (four ⊗ var 0 ⊕ four ⊗ var 1 ⊕ con (pos 0) ⊗ var 2) (four ⊗ var 0 ⊕ four ⊗ var 1) (a ∷ b ∷ c ∷ []) tt
+    solve (four ⊠ var 0 ⊞ four ⊠ var 1 ⊞ con (pos 0) ⊠ var 2) (four ⊠ var 0 ⊞ four ⊠ var 1) (a ∷ b ∷ c ∷ []) tt
 mask (suc zero) a b c h =
     let one = con (pos 1) in
     let six = con (pos 6) in
-    solve (one ⊗ var 0 ⊕ six ⊗ var 1 ⊕ one ⊗ var 2) (var 0 ⊕ six ⊗ var 1 ⊕ var 2) (a ∷ b ∷ c ∷ []) tt
+    solve (one ⊠ var 0 ⊞ six ⊠ var 1 ⊞ one ⊠ var 2) (var 0 ⊞ six ⊠ var 1 ⊞ var 2) (a ∷ b ∷ c ∷ []) tt
 mask (suc (suc odd)) a b c h = absurd (omega arith)
 
 -- ---- the code's expressions

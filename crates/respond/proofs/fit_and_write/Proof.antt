@@ -3,7 +3,7 @@ use mathlib.Core.Path.{sym, ap, _∙_}
 use native.Mathlib.Omega.{arith}
 use borrow.Author.Needs.{needs}
 use Rattle.rules.specs.Laws.LatticeFile.{length-latticeFile}
-use Rattle.fit.specs.Fitted.{told}
+use Rattle.fit.specs.LatticeFitted.{told}
 use Rattle.respond.proofs.Fitting.{written-as, refusal, room, file-is}
 use Rattle.respond.proofs.fit_and_write.Statement.{statement}
 use Rattle.respond.proofs.fit_and_write.Tie as tie
@@ -36,8 +36,8 @@ put-lattice-requires c κs =
     let floats = fit .before in
     let pre = floats .before .before .before .before .before .before .before .pre in
     let r =
-    room (pre .0) _ (slice-aggregate-fit (floats .before .before .before)) (slice-aggregate-fit-2 (floats .before .before)) (slice-aggregate-fit-3 (floats .before)) (slice-aggregate-fit-4 floats) _ _
-    (ap told (sym (m .m .given .1)) ∙ fit .fit .ensures .0) in
+    room (pre .0) _ (slice-aggregate-fit (floats .before .before .before)) (slice-aggregate-fit-2 (floats .before .before)) (slice-aggregate-fit-3 (floats .before)) (slice-aggregate-fit-4 floats)
+    (fit .fit .ensures .0) _ _ (ap told (m .m .given .1)) in
     (r .0, r .1, omega (arith, r .2, slice-aggregate-put-lattice (c .before)), omega (arith, r .3, pre .1))
 
 enum-known-r : tie.Need-enum-known-r
@@ -56,10 +56,10 @@ returns c =
     let fit = m .before .before .before .before .before .before in
     let floats = fit .before in
     let pre = floats .before .before .before .before .before .before .before .pre in
-    written-as _
-    (file-is (pre .0) _ (slice-aggregate-fit (floats .before .before .before)) (slice-aggregate-fit-2 (floats .before .before)) (slice-aggregate-fit-3 (floats .before)) (slice-aggregate-fit-4 floats) _ _
-    (ap told (sym (m .m .given .1)) ∙ fit .fit .ensures .0) _ (fit .fit .ensures .1 .0))
-    (put .put-lattice .ensures .0 ∙ sym (length-latticeFile _ _ _)) (put .put-lattice .ensures .1)
+    written-as
+    (file-is (pre .0) _ (slice-aggregate-fit (floats .before .before .before)) (slice-aggregate-fit-2 (floats .before .before)) (slice-aggregate-fit-3 (floats .before)) (slice-aggregate-fit-4 floats)
+    (fit .fit .ensures .0) _ _ (ap told (m .m .given .1)))
+    (record { long = put .put-lattice .ensures .0 ∙ sym (length-latticeFile _ _ _); is = put .put-lattice .ensures .1 })
 
 same-length-2 : tie.Need-same-length-2
 same-length-2 c = search needs
@@ -71,10 +71,10 @@ returns-2 c =
     let fit = r .before .before .before .before .before .before in
     let floats = fit .before in
     let pre = floats .before .before .before .before .before .before .before .pre in
-    written-as _
-    (refusal (pre .0) _ (slice-aggregate-fit (floats .before .before .before)) (slice-aggregate-fit-2 (floats .before .before)) (slice-aggregate-fit-3 (floats .before)) (slice-aggregate-fit-4 floats) _
-    (ap told (sym (r .r .given .1)) ∙ fit .fit .ensures .0))
-    (put .put-refused .ensures .0) (put .put-refused .ensures .1)
+    written-as
+    (refusal (pre .0) _ (slice-aggregate-fit (floats .before .before .before)) (slice-aggregate-fit-2 (floats .before .before)) (slice-aggregate-fit-3 (floats .before)) (slice-aggregate-fit-4 floats)
+    (fit .fit .ensures .0) _ (ap told (r .r .given .1)))
+    (put .put-refused .ensures)
 
 pub fit-and-write-spec : {M : Type 1} → statement M
 fit-and-write-spec =

@@ -9,6 +9,7 @@ use Rattle.algebra.specs.Table.{over, laid, laid-sets, laid-front, laid-over, l
 use Rattle.rules.specs.Answers.{Refusal, number, place}
 use Rattle.rules.specs.Program.{decimal, refusedLine}
 use Rattle.respond.specs.Decimal.{decimal-short}
+use Rattle.respond.specs.Taken.{Wrote}
 use Rattle.respond.proofs.put_refused.Statement.{statement}
 use Rattle.respond.proofs.put_refused.Tie as tie
 
@@ -69,8 +70,8 @@ module _ (a b space end : ℕ) (d e f : List ℕ) (small-a : a < 2 ^ 64) (small-
   refusal : (r : Refusal) → a ≡ number r → b ≡ place r
       → e ≡ laid 8 (decimal a) (set (set (set (set (set (set (set (set d 0 114) 1 101) 2 102) 3 117) 4 115) 5 101) 6 100) 7 32)
       → f ≡ laid (space + 1) (decimal b) (set e space 32)
-      → (end + 1 ≡ length (refusedLine r)) × (set f end 10 ≡ over (refusedLine r) d)
-  refusal r na pb p q = let is = text-is r a b na pb in (text-long ∙ ap length is, line p q ∙ ap (λ l. over l d) is)
+      → Wrote (refusedLine r) d (end + 1) (set f end 10)
+  refusal r na pb p q = let is = text-is r a b na pb in record { long = text-long ∙ ap length is; is = line p q ∙ ap (λ l. over l d) is }
 
 slice-write-output : tie.Need-slice-write-output
 slice-write-output c = search needs

@@ -1,9 +1,9 @@
 -- `respond::write` meets its contract: each way out writes what the rules say at its test.
-use mathlib.Core.Path.{sym, ap, _∙_}
+use mathlib.Core.Path.{sym, ap}
 use native.Mathlib.Omega.{arith}
 use borrow.Author.Needs.{needs}
 use lib.Seq.{length-take-le}
-use Rattle.rules.specs.Fit.{shape}
+use Rattle.rules.specs.Fit.{shape, Survey, survey}
 use Rattle.point_file.specs.Told.{readTold}
 use Rattle.respond.proofs.Fitting.{written-as}
 use Rattle.respond.proofs.Reading.{too-long, refusal, ReadAs, read-as, points-fit, levels-most, too-wide, too-high, answer-is, taken}
@@ -19,7 +19,7 @@ same-length c = search needs
 returns : tie.Need-returns
 returns c =
     let put = c .before .before in
-    written-as _ (too-long _ (put .before .before .if1 .taken)) (put .put-refused .ensures .0) (put .put-refused .ensures .1)
+    written-as (too-long _ (put .before .before .if1 .taken)) (put .put-refused .ensures)
 
 slice-aggregate-read-points : tie.Need-slice-aggregate-read-points
 slice-aggregate-read-points c = search needs
@@ -42,21 +42,21 @@ put-refused-requires-2 c κs = search needs
 enum-known-a : tie.Need-enum-known-a
 enum-known-a c = search needs
 
+-- what the three slices hold when the reader is done
+abbrev got : tie.After-read-points → Survey
+got c = survey (c .read-points .last .1 .0) (c .read-points .last .1 .1 .0) (c .read-points .last .1 .1 .1 .0)
+
 -- the reader has accepted the file
 read : (c : tie.After-a)
     → ReadAs (c .before .before .before .before .before .before .before .before .before .before .before .before .args .input .now)
     (record { shape = shape (c .a .given .0 .0 .m0) (c .a .given .0 .0 .n0) (c .a .given .0 .0 .h); points = c .a .given .0 .0 .points })
-    (c .before .before .before .before .before .read-points .last .1 .0)
-    (c .before .before .before .before .before .read-points .last .1 .1 .0)
-    (c .before .before .before .before .before .read-points .last .1 .1 .1 .0)
+    (got (c .before .before .before .before .before))
 read c =
     let reader = c .before .before .before .before .before in
     let zs = reader .before in
     let start = zs .before .before .before in
-    let leaves = reader .read-points .ensures .1 in
-    read-as _ (start .if1 .left) _ _ _ (slice-aggregate-read-points (zs .before .before)) (slice-aggregate-read-points-2 (zs .before)) (slice-aggregate-read-points-3 zs) _
-    (ap readTold (sym (c .a .given .1)) ∙ reader .read-points .ensures .0)
-    (λ i. start .before .before .shared-slice-known .given i .fits) (leaves .0) (leaves .1 .0) (leaves .1 .1)
+    read-as _ (start .if1 .left) _ (slice-aggregate-read-points (zs .before .before)) (slice-aggregate-read-points-2 (zs .before)) (slice-aggregate-read-points-3 zs)
+    (reader .read-points .ensures) _ (ap readTold (c .a .given .1)) (λ i. start .before .before .shared-slice-known .given i .fits)
 
 shl-if2 : tie.Need-shl-if2
 shl-if2 c = omega (arith, levels-most (read (c .before)))
@@ -71,7 +71,7 @@ returns-2 : tie.Need-returns-2
 returns-2 c =
     let put = c .before .before in
     let then = put .before .before in
-    written-as _ (too-wide (read (then .before .before)) (then .if2 .taken)) (put .put-refused3 .ensures .0) (put .put-refused3 .ensures .1)
+    written-as (too-wide (read (then .before .before)) (then .if2 .taken)) (put .put-refused3 .ensures)
 
 shl-if3 : tie.Need-shl-if3
 shl-if3 c = omega (arith, levels-most (read (c .before .before)))
@@ -87,7 +87,7 @@ returns-3 c =
     let put = c .before .before in
     let then = put .before .before in
     let wide = then .before in
-    written-as _ (too-high (read (wide .before .before)) (wide .if2 .left) (then .if3 .taken)) (put .put-refused4 .ensures .0) (put .put-refused4 .ensures .1)
+    written-as (too-high (read (wide .before .before)) (wide .if2 .left) (then .if3 .taken)) (put .put-refused4 .ensures)
 
 array-share-prefix-xs : tie.Need-array-share-prefix-xs
 array-share-prefix-xs c =
@@ -131,10 +131,10 @@ returns-4 c =
     let reader = told .before .before .before .before .before in
     let zs = reader .before in
     let start = zs .before .before .before in
-    written-as _
-    (refusal _ (start .if1 .left) _ _ _ (slice-aggregate-read-points (zs .before .before)) (slice-aggregate-read-points-2 (zs .before)) (slice-aggregate-read-points-3 zs) _
-    (ap readTold (sym (told .r .given .1)) ∙ reader .read-points .ensures .0))
-    (put .put-refused2 .ensures .0) (put .put-refused2 .ensures .1)
+    written-as
+    (refusal _ (start .if1 .left) _ (slice-aggregate-read-points (zs .before .before)) (slice-aggregate-read-points-2 (zs .before)) (slice-aggregate-read-points-3 zs)
+    (reader .read-points .ensures) _ (ap readTold (told .r .given .1)))
+    (put .put-refused2 .ensures)
 
 same-length-5 : tie.Need-same-length-5
 same-length-5 c = search needs
@@ -144,7 +144,7 @@ returns-5 c =
     let put = c .before .before in
     let high = put .before .before .before .before .before in
     let wide = high .before in
-    written-as _ (answer-is (read (wide .before .before)) (wide .if2 .left) (high .if3 .left)) (put .fit-and-write .ensures .0) (put .fit-and-write .ensures .1)
+    written-as (answer-is (read (wide .before .before)) (wide .if2 .left) (high .if3 .left)) (put .fit-and-write .ensures)
 
 pub write-spec : {M : Type 1} → statement M
 write-spec =

@@ -1,5 +1,5 @@
 -- Laws of "Basis and height" along one axis, for any U: the numerators are weights that add up to 6U³, a position has its cell and
--- offset, and the sum along an axis is linear, reads the stored places alone and is bounded by them.
+-- offset, a sum of any four weights is linear, decided by its four values and bounded by them, and so is the sum along an axis.
 use mathlib.Core.Path.{_≡_, refl, ap, _∙_}
 use mathlib.Core.List.{List, [], _∷_}
 use Prim.Native.Nat.{ℕ, zero, suc, _+_, _-_, _*_, _/_, min, _≤_, _<_}
@@ -7,9 +7,9 @@ use native.Mathlib.Nat.{add-sub-of-le, le-trans, mul-le-mul-left, mul-le-mul-rig
 use native.Mathlib.Decide.{decLt}
 use native.Mathlib.Omega.{arith}
 use lib.IntN.{ℤ, pos, natAbs, _+ℤ_, _*ℤ_}
-use Rattle.algebra.specs.Solver.{Expr, var, con, _⊕_, _⊗_, _⊖_, neg, solve}
+use Rattle.algebra.specs.Solver.{Expr, var, con, _⊞_, _⊠_, _⊟_, neg, solve}
 use Rattle.algebra.specs.Size.{natAbs-sum, natAbs-product}
-use Rattle.rules.specs.Surface.{square, cube, numerator, denominator, cell, offset, along}
+use Rattle.rules.specs.Surface.{square, cube, numerator, denominator, cell, offset, weighted, along}
 
 -- ---- numerators
 
@@ -22,10 +22,10 @@ weights a b (suc (suc (suc k))) = a * a * a
 
 -- `numerator`, for the solver
 unfoldable pub quoted : Expr → Expr → ℕ → Expr
-quoted U a zero = (U ⊖ a) ⊗ (U ⊖ a) ⊗ (U ⊖ a)
-quoted U a (suc zero) = con (pos 3) ⊗ (a ⊗ a ⊗ a) ⊖ con (pos 6) ⊗ (a ⊗ a) ⊗ U ⊕ con (pos 4) ⊗ (U ⊗ U ⊗ U)
-quoted U a (suc (suc zero)) = neg (con (pos 3)) ⊗ (a ⊗ a ⊗ a) ⊕ con (pos 3) ⊗ (a ⊗ a) ⊗ U ⊕ con (pos 3) ⊗ a ⊗ (U ⊗ U) ⊕ U ⊗ U ⊗ U
-quoted U a (suc (suc (suc k))) = a ⊗ a ⊗ a
+quoted U a zero = (U ⊟ a) ⊠ (U ⊟ a) ⊠ (U ⊟ a)
+quoted U a (suc zero) = con (pos 3) ⊠ (a ⊠ a ⊠ a) ⊟ con (pos 6) ⊠ (a ⊠ a) ⊠ U ⊞ con (pos 4) ⊠ (U ⊠ U ⊠ U)
+quoted U a (suc (suc zero)) = neg (con (pos 3)) ⊠ (a ⊠ a ⊠ a) ⊞ con (pos 3) ⊠ (a ⊠ a) ⊠ U ⊞ con (pos 3) ⊠ a ⊠ (U ⊠ U) ⊞ U ⊠ U ⊠ U
+quoted U a (suc (suc (suc k))) = a ⊠ a ⊠ a
 
 -- so none is negative
 pub numerator-weights : (a b : ℕ) {U : ℕ} → a + b ≡ U → (k : ℕ) → numerator (pos U) (pos a) k ≡ pos (weights a b k)
@@ -33,13 +33,13 @@ unfolding numerator weights square cube quoted
 numerator-weights a b e k = rw (← e) (go k)
   where
     end : Expr → Expr
-    end x = x ⊗ x ⊗ x
+    end x = x ⊠ x ⊠ x
 
     middle : Expr → Expr → Expr
-    middle x y = end x ⊕ con (pos 6) ⊗ (x ⊗ x ⊗ y) ⊕ con (pos 12) ⊗ (x ⊗ y ⊗ y) ⊕ con (pos 4) ⊗ end y
+    middle x y = end x ⊞ con (pos 6) ⊠ (x ⊠ x ⊠ y) ⊞ con (pos 12) ⊠ (x ⊠ y ⊠ y) ⊞ con (pos 4) ⊠ end y
 
     q : ℕ → Expr
-    q = quoted (var 0 ⊕ var 1) (var 0)
+    q = quoted (var 0 ⊞ var 1) (var 0)
 
     ρ : List ℤ
     ρ = pos a ∷ pos b ∷ []
@@ -55,7 +55,7 @@ pub numerators-sum : (U a : ℤ) → numerator U a 0 +ℤ numerator U a 1 +ℤ n
 unfolding numerator square cube quoted
 numerators-sum U a =
     let q = quoted (var 0) (var 1) in
-    solve (q 0 ⊕ q 1 ⊕ q 2 ⊕ q 3) (con (pos 6) ⊗ (var 0 ⊗ var 0 ⊗ var 0)) (U ∷ a ∷ []) tt
+    solve (q 0 ⊞ q 1 ⊞ q 2 ⊞ q 3) (con (pos 6) ⊠ (var 0 ⊠ var 0 ⊠ var 0)) (U ∷ a ∷ []) tt
 
 -- the weights add up to 6U³. A position a ≤ U has b = U - a
 pub weights-sum : (a b : ℕ) {U : ℕ} → a + b ≡ U → weights a b 0 + weights a b 1 + weights a b 2 + weights a b 3 ≡ denominator U
@@ -98,70 +98,96 @@ pub offset-edge : (U m : ℕ) → 0 < U → 0 < m → offset U m (U * m) ≡ U
 unfolding offset
 offset-edge U m h k = rw (cell-edge U m h) (omega (arith, last-cell U m k))
 
--- ---- the sum along an axis
+-- ---- four weights, and the values from a place on
+
+-- the sizes of four weights together
+abbrev pub totalSize : (ℕ → ℤ) → ℕ
+totalSize w = natAbs (w 0) + natAbs (w 1) + natAbs (w 2) + natAbs (w 3)
 
 -- the sum of the four products of var 0 .. var 3 and what p quotes, for the solver
 products : (ℕ → Expr) → Expr
-products p = var 0 ⊗ p 0 ⊕ var 1 ⊗ p 1 ⊕ var 2 ⊗ p 2 ⊕ var 3 ⊗ p 3
+products p = var 0 ⊠ p 0 ⊞ var 1 ⊠ p 1 ⊞ var 2 ⊠ p 2 ⊞ var 3 ⊠ p 3
 
--- a sum of values of size at most B, weighed by natural numbers
-weighed : (w : ℕ → ℕ) (p q r s : ℤ) (B : ℕ) → natAbs p ≤ B → natAbs q ≤ B → natAbs r ≤ B → natAbs s ≤ B
-    → natAbs (pos (w 0) *ℤ p +ℤ pos (w 1) *ℤ q +ℤ pos (w 2) *ℤ r +ℤ pos (w 3) *ℤ s) ≤ (w 0 + w 1 + w 2 + w 3) * B
-weighed w p q r s B hp hq hr hs =
-    let P = pos (w 0) *ℤ p in
-    let Q = pos (w 1) *ℤ q in
-    let R = pos (w 2) *ℤ r in
-    let sums = natAbs-sum (P +ℤ Q +ℤ R) (pos (w 3) *ℤ s) in
-    omega (arith, sums, natAbs-sum (P +ℤ Q) R, natAbs-sum P Q, one (w 0) p hp, one (w 1) q hq, one (w 2) r hr, one (w 3) s hs)
-  where
-    one : (w : ℕ) (v : ℤ) → natAbs v ≤ B → natAbs (pos w *ℤ v) ≤ w * B
-    one w v h = rw (natAbs-product (pos w) v) (mul-le-mul-left w h)
+-- the values of four variables: those of f from place c on
+stored : (ℕ → ℤ) → ℕ → List ℤ → List ℤ
+stored f c ρ = f c ∷ f (c + 1) ∷ f (c + 2) ∷ f (c + 3) ∷ ρ
 
-module _ (U m x : ℕ) where
-  -- the values of four variables: the numerators at x, and the values of f that stand with them
-  numerators : List ℤ → List ℤ
-  numerators ρ = let n = numerator (pos U) (pos (offset U m x)) in n 0 ∷ n 1 ∷ n 2 ∷ n 3 ∷ ρ
+module _ (w : ℕ → ℤ) where
+  weighing : List ℤ → List ℤ
+  weighing ρ = w 0 ∷ w 1 ∷ w 2 ∷ w 3 ∷ ρ
 
-  stored : (ℕ → ℤ) → List ℤ → List ℤ
-  stored f ρ = let c = cell U m x in f c ∷ f (c + 1) ∷ f (c + 2) ∷ f (c + 3) ∷ ρ
+  -- the four values decide the sum, wherever they stand
+  pub weighted-values : (f g : ℕ → ℤ) (c d : ℕ) → f c ≡ g d → f (c + 1) ≡ g (d + 1) → f (c + 2) ≡ g (d + 2) → f (c + 3) ≡ g (d + 3)
+      → weighted w f c ≡ weighted w g d
+  unfolding weighted
+  weighted-values f g c d p q r s = rw (p, q, r, s)
 
-  pub along-sum : (f g : ℕ → ℤ) → along U m x (λ s. f s +ℤ g s) ≡ along U m x f +ℤ along U m x g
-  unfolding along products numerators stored
-  along-sum f g =
+  pub weighted-reads : (f g : ℕ → ℤ) (c : ℕ) → ((s : ℕ) → c ≤ s → s < c + 4 → f s ≡ g s) → weighted w f c ≡ weighted w g c
+  weighted-reads f g c e =
+      weighted-values f g c c (e c (omega arith) (omega arith)) (e (c + 1) (omega arith) (omega arith)) (e (c + 2) (omega arith) (omega arith)) (e (c + 3) (omega arith) (omega arith))
+
+  pub weighted-sum : (f g : ℕ → ℤ) (c : ℕ) → weighted w (λ s. f s +ℤ g s) c ≡ weighted w f c +ℤ weighted w g c
+  unfolding weighted products weighing stored
+  weighted-sum f g c =
       let p : ℕ → Expr = λ k. var (4 + k) in
       let q : ℕ → Expr = λ k. var (8 + k) in
-      solve (products (λ k. p k ⊕ q k)) (products p ⊕ products q) (numerators (stored f (stored g []))) tt
+      solve (products (λ k. p k ⊞ q k)) (products p ⊞ products q) (weighing (stored f c (stored g c []))) tt
+
+  pub weighted-scale : (z : ℤ) (f : ℕ → ℤ) (c : ℕ) → weighted w (λ s. z *ℤ f s) c ≡ z *ℤ weighted w f c
+  unfolding weighted products weighing stored
+  weighted-scale z f c =
+      let p : ℕ → Expr = λ k. var (4 + k) in
+      solve (products (λ k. var 8 ⊠ p k)) (var 8 ⊠ products p) (weighing (stored f c (z ∷ []))) tt
+
+  pub weighted-constant : (z : ℤ) (c : ℕ) → weighted w (λ s. z) c ≡ (w 0 +ℤ w 1 +ℤ w 2 +ℤ w 3) *ℤ z
+  unfolding weighted products weighing
+  weighted-constant z c = solve (products (λ k. var 4)) ((var 0 ⊞ var 1 ⊞ var 2 ⊞ var 3) ⊠ var 4) (weighing (z ∷ [])) tt
+
+  pub weighted-bound : (f : ℕ → ℤ) (c B : ℕ) → ((s : ℕ) → c ≤ s → s < c + 4 → natAbs (f s) ≤ B) → natAbs (weighted w f c) ≤ totalSize w * B
+  unfolding weighted
+  weighted-bound f c B b =
+      let P = w 0 *ℤ f c in
+      let Q = w 1 *ℤ f (c + 1) in
+      let R = w 2 *ℤ f (c + 2) in
+      let S = w 3 *ℤ f (c + 3) in
+      omega (arith, natAbs-sum (P +ℤ Q +ℤ R) S, natAbs-sum (P +ℤ Q) R, natAbs-sum P Q, one 0 c (omega arith) (omega arith), one 1 (c + 1) (omega arith) (omega arith), one 2 (c + 2) (omega arith) (omega arith), one 3 (c + 3) (omega arith) (omega arith))
+    where
+      one : (k s : ℕ) → c ≤ s → s < c + 4 → natAbs (w k *ℤ f s) ≤ natAbs (w k) * B
+      one k s h l = rw (natAbs-product (w k) (f s)) (mul-le-mul-left (natAbs (w k)) (b s h l))
+
+-- ---- the sum along an axis
+
+-- no numerator is negative, so their sizes add up to 6U³
+pub numerators-size : (U a : ℕ) → a ≤ U → totalSize (numerator (pos U) (pos a)) ≡ denominator U
+numerators-size U a h =
+    let e : a + (U - a) ≡ U = add-sub-of-le h in
+    let w = numerator-weights a (U - a) e in
+    rw (w 0, w 1, w 2, w 3) (weights-sum a (U - a) e)
+
+module _ (U m x : ℕ) where
+  abbrev at : ℕ → ℤ
+  at = numerator (pos U) (pos (offset U m x))
+
+  pub along-sum : (f g : ℕ → ℤ) → along U m x (λ s. f s +ℤ g s) ≡ along U m x f +ℤ along U m x g
+  unfolding along
+  along-sum f g = weighted-sum at f g (cell U m x)
 
   pub along-scale : (c : ℤ) (f : ℕ → ℤ) → along U m x (λ s. c *ℤ f s) ≡ c *ℤ along U m x f
-  unfolding along products numerators stored
-  along-scale c f =
-      let p : ℕ → Expr = λ k. var (4 + k) in
-      solve (products (λ k. var 8 ⊗ p k)) (var 8 ⊗ products p) (numerators (stored f (c ∷ []))) tt
+  unfolding along
+  along-scale c f = weighted-scale at c f (cell U m x)
 
   -- the partition of unity, as the sum along an axis has it
   pub along-constant : (c : ℤ) → along U m x (λ s. c) ≡ pos (denominator U) *ℤ c
-  unfolding along products numerators denominator cube
-  along-constant c =
-      solve (products (λ k. var 4)) ((var 0 ⊕ var 1 ⊕ var 2 ⊕ var 3) ⊗ var 4) (numerators (c ∷ [])) tt
-      ∙ ap (λ z. z *ℤ c) (numerators-sum (pos U) (pos (offset U m x)))
+  unfolding along denominator cube
+  along-constant c = weighted-constant at c (cell U m x) ∙ ap (λ z. z *ℤ c) (numerators-sum (pos U) (pos (offset U m x)))
 
   -- the values that stand at the m + 3 stored places decide the sum
   pub along-reads : 0 < m → (f g : ℕ → ℤ) → ((s : ℕ) → s < m + 3 → f s ≡ g s) → along U m x f ≡ along U m x g
   unfolding along
-  along-reads h f g e =
-      let c = cell U m x in
-      let l : c < m = cell-below U m x h in
-      rw (e c (omega arith), e (c + 1) (omega arith), e (c + 2) (omega arith), e (c + 3) (omega arith))
+  along-reads h f g e = weighted-reads at f g (cell U m x) (λ s l k. e s (omega (arith, cell-below U m x h)))
 
   pub along-bound : 0 < U → 0 < m → x ≤ U * m → (f : ℕ → ℤ) (B : ℕ) → ((s : ℕ) → s < m + 3 → natAbs (f s) ≤ B)
       → natAbs (along U m x f) ≤ denominator U * B
   unfolding along
   along-bound u h i f B b =
-      let c = cell U m x in
-      let a = offset U m x in
-      let l : c < m = cell-below U m x h in
-      let e : a + (U - a) ≡ U = add-sub-of-le (offset-within U m x u h i) in
-      let w = numerator-weights a (U - a) e in
-      rw (w 0, w 1, w 2, w 3, ← weights-sum a (U - a) e)
-      (weighed (weights a (U - a)) (f c) (f (c + 1)) (f (c + 2)) (f (c + 3)) B
-      (b c (omega arith)) (b (c + 1) (omega arith)) (b (c + 2) (omega arith)) (b (c + 3) (omega arith)))
+      rw (← numerators-size U (offset U m x) (offset-within U m x u h i)) (weighted-bound at f (cell U m x) B (λ s l k. b s (omega (arith, cell-below U m x h))))

@@ -178,12 +178,6 @@ module _ {file : List ℕ} (s : ℕ → ℕ) (f : ℕ → List ℕ) where
       go (yes l) before last = before l
       go (no g) before last = let at : i ≡ n = omega arith in rw at last
 
--- the length of n parts of w bytes each
-pub length-joined : (w : ℕ) (f : ℕ → List ℕ) → ((i : ℕ) → length (f i) ≡ w) → (n : ℕ) → length (joined n f) ≡ n * w
-unfolding joined
-length-joined w f e zero = omega arith
-length-joined w f e (suc n) = rw (length-append (joined n f) (f n), length-joined w f e n, e n) (omega arith)
-
 spans-take : {file part : List ℕ} {b c : ℕ} (w : ℕ) → length part ≡ w → Spans file b c part → take w (drop b file) ≡ part
 spans-take {file} {part} {b} {c} w e x = ap (take w) (x .cut) ∙ take-at part (drop c file) w e
 

@@ -1,19 +1,20 @@
 -- Laws of checks: what an accepted run of checks has shown, and which offender a refusal names.
 use mathlib.Core.Path.{_≡_, refl, sym, _∙_, ap, subst}
-use mathlib.Core.Bool.{Bool, true, false, _&&_}
-use mathlib.Core.Option.{Option, none, some}
+use mathlib.Core.Bool.{Bool, true, false}
+use mathlib.Core.Option.{none, some}
 use mathlib.Core.List.{List}
 use Prim.Native.Nat.{ℕ, zero, suc, _+_, _≤_, _<_}
 use native.Mathlib.Numerals.{add-one}
-use native.Mathlib.Nat.{not-suc-le-zero, le-of-suc-le-suc}
+use native.Mathlib.Nat.{not-suc-le-zero}
 use native.Mathlib.Decide.{decLt}
 use native.Mathlib.Omega.{arith}
-use lib.Dec.{T, leb, leb→le, le→leb}
+use lib.Dec.{T, leb, eqb, leb→le, le→leb}
 use lib.IntN.{ℤ, pos, natAbs}
 use lib.ListN.{getD}
-use mir.Facts.{and-yes}
+use mir.Facts.{and-yes, yes-and}
 use Rattle.rules.specs.Grid.{limit, inRange, within}
-use Rattle.rules.specs.Answers.{Refusal, Check, require, _then_, firstOf, rangeCheck, Answer, accepted, refused, answer}
+use Rattle.rules.specs.Answers.{Refusal, cells, levels, unit, lists, short, position, range, quotient, residual, sum, size, incomplete, mark, field, trailing, number, inLevels}
+use Rattle.rules.specs.Answers.{Check, require, _then_, firstOf, rangeCheck, Answer, accepted, refused, answer, Outcome, outcome, call}
 
 -- ---- one check
 
@@ -34,6 +35,10 @@ pub within-bounds : (low high v : ℕ) → T (within low high v) → (low ≤ v)
 unfolding within
 within-bounds low high v t = let p = and-yes (leb low v) (leb v high) t in (leb→le low v (p .0), leb→le v high (p .1))
 
+pub bounds-within : (low high v : ℕ) → (low ≤ v) × (v ≤ high) → T (within low high v)
+unfolding within
+bounds-within low high v b = yes-and (leb low v) (leb v high) (le→leb low v (b .0)) (le→leb v high (b .1))
+
 -- ---- one check after another
 
 pub then-first : (c d : Check) → (c then d) ≡ none → c ≡ none
@@ -46,9 +51,16 @@ unfolding _then_
 then-rest none d e = e
 then-rest (some r) d e = let z : d ≡ none = cc in z
 
+pub then-both : (c d : Check) → (c then d) ≡ none → (c ≡ none) × (d ≡ none)
+then-both c d e = (then-first c d e, then-rest c d e)
+
 pub then-none : (c d : Check) → c ≡ none → (c then d) ≡ d
 unfolding _then_
 then-none c d e = rw e refl
+
+pub then-some : (c d : Check) {r : Refusal} → c ≡ some r → (c then d) ≡ some r
+unfolding _then_
+then-some c d e = rw e refl
 
 pub then-assoc : (c d e : Check) → ((c then d) then e) ≡ (c then d then e)
 unfolding _then_
@@ -70,6 +82,10 @@ pub firstOf-all : (n : ℕ) (f : ℕ → Check) → ((i : ℕ) → i < n → f i
 unfolding firstOf
 firstOf-all zero f h = refl
 firstOf-all (suc n) f h = then-none (firstOf n f) (f n) (firstOf-all n f (λ i l. h i (omega arith))) ∙ h n (omega arith)
+
+pub firstOf-more : (n : ℕ) (f : ℕ → Check) → firstOf n f ≡ none → f n ≡ none → firstOf (n + 1) f ≡ none
+unfolding firstOf
+firstOf-more n f e g = rw (add-one n) (then-none (firstOf n f) (f n) e ∙ g)
 
 -- the refusal of i, where none below i is refused
 pub firstOf-at : (n i : ℕ) (f : ℕ → Check) (r : Refusal) → firstOf i f ≡ none → i < n → f i ≡ some r → firstOf n f ≡ some r
@@ -156,6 +172,42 @@ noneOut-at n i values p l out f = firstOf-at n i (λ j. require (inRange (getD v
 
 -- ---- answers
 
+-- the fit had begun its levels exactly if the number is 7
+pub in-levels : (r : Refusal) → inLevels r ≡ eqb (number r) 7
+in-levels cells = refl
+in-levels levels = refl
+in-levels unit = refl
+in-levels lists = refl
+in-levels short = refl
+in-levels (position i) = refl
+in-levels (range i) = refl
+in-levels (quotient k) = refl
+in-levels (residual k) = refl
+in-levels (sum k) = refl
+in-levels size = refl
+in-levels (incomplete b) = refl
+in-levels (mark b) = refl
+in-levels (field b) = refl
+in-levels (trailing b) = refl
+
+-- no refusal has the number of an acceptance
+pub number-some : (r : Refusal) → number r ≡ 0 → ⊥
+number-some cells e = omega arith
+number-some levels e = omega arith
+number-some unit e = omega arith
+number-some lists e = omega arith
+number-some short e = omega arith
+number-some (position i) e = omega arith
+number-some (range i) e = omega arith
+number-some (quotient k) e = omega arith
+number-some (residual k) e = omega arith
+number-some (sum k) e = omega arith
+number-some size e = omega arith
+number-some (incomplete b) e = omega arith
+number-some (mark b) e = omega arith
+number-some (field b) e = omega arith
+number-some (trailing b) e = omega arith
+
 pub answer-none : {A : Type 0} (c : Check) (a b : A) → answer c a ≡ accepted b → c ≡ none
 unfolding answer
 answer-none none a b e = refl
@@ -170,3 +222,37 @@ pub answer-refused : {A : Type 0} (c : Check) (a : A) (r : Refusal) → answer c
 unfolding answer
 answer-refused none a r e = let z : none ≡ some r = cc in z
 answer-refused (some s) a r e = cc
+
+-- ---- calls
+
+module _ {A B : Type 0} (c : Check) (v : A) (after lent : B) where
+  pub call-refused : (r : Refusal) → c ≡ some r → outcome (refused r) lent ≡ call c v after lent
+  unfolding call
+  call-refused r e = rw e
+
+  pub call-accepted : c ≡ none → outcome (accepted v) after ≡ call c v after lent
+  unfolding call
+  call-accepted e = rw e
+
+  -- what the answer of a call tells of its check, and of what it returns and leaves
+  module _ (t : Answer A) (s : B) (is : outcome t s ≡ call c v after lent) where
+    answered : t ≡ answer c v
+    unfolding call answer
+    answered = ap (λ (o : Outcome A B). o .answered) is ∙ by c
+      where
+        by : (c : Check) → call c v after lent .answered ≡ answer c v
+        by none = refl
+        by (some r) = refl
+
+    pub call-unrefused : (b : A) → t ≡ accepted b → c ≡ none
+    call-unrefused b e = answer-none c v b (sym answered ∙ e)
+
+    pub call-value : (b : A) → t ≡ accepted b → v ≡ b
+    call-value b e = answer-value c v b (sym answered ∙ e)
+
+    pub call-after : (b : A) → t ≡ accepted b → s ≡ after
+    unfolding call
+    call-after b e = ap (λ (o : Outcome A B). o .slices) is ∙ rw (call-unrefused b e) refl
+
+    pub call-refusal : (r : Refusal) → t ≡ refused r → c ≡ some r
+    call-refusal r e = answer-refused c v r (sym answered ∙ e)

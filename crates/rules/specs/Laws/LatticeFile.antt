@@ -13,15 +13,15 @@ use lib.IntN.{ℤ, pos, natAbs}
 use lib.Ieee.Fits.{and-i}
 use lib.ListN.{length, getD, take, length-append}
 use mir.Facts.{and-yes}
-use Rattle.algebra.specs.Table.{joined, over, tabulate-same, tabulate-take, getD-tabulate}
+use Rattle.algebra.specs.Table.{joined, over, tabulate-same, tabulate-take, getD-tabulate, length-joined}
 use Rattle.rules.specs.Grid.{Lattice, limit, inRange, within, controls, control, store}
-use Rattle.rules.specs.Answers.{cells, short, answer, accepted, left}
+use Rattle.rules.specs.Answers.{cells, short, accepted, outcome, call}
 use Rattle.rules.specs.Bytes.{bytesOf, valueBytes, valueAt}
 use Rattle.rules.specs.LatticeFile.{LH, LR, LE, rowRecord, latticeFile, rowLength, rowStart, latticeFileLength, fileM, fileN}
-use Rattle.rules.specs.LatticeFile.{headCheck, rowCheck, endCheck, latticeFileCheck, fileLattice}
-use Rattle.rules.specs.LatticeFile.{readLatticeCheck, readLatticeAnswer, readLatticeLeaves, writeLatticeCheck}
+use Rattle.rules.specs.LatticeFile.{latticeHeadCheck, rowCheck, endCheck, latticeFileCheck, fileLattice}
+use Rattle.rules.specs.LatticeFile.{readLatticeCheck, readLatticeCall, writeLatticeCheck}
 use Rattle.rules.specs.Laws.Checks.{required, require-met, rangeCheck-size, size-rangeCheck, within-bounds, then-first, then-rest, then-none, firstOf-none, firstOf-all, AllInRange, inRange-size, size-inRange}
-use Rattle.rules.specs.Laws.Bytes.{AreBytes, Spans, spans-whole, spans-file, spans-join, spans-split, spans-moved, spans-joined, spans-part, spans-fits, length-joined}
+use Rattle.rules.specs.Laws.Bytes.{AreBytes, Spans, spans-whole, spans-file, spans-join, spans-split, spans-moved, spans-joined, spans-part, spans-fits}
 use Rattle.rules.specs.Laws.Bytes.{length-bytesOf, length-valueBytes, number-read, number-spans, value-read, value-spans, record-fits, record-mark, record-met}
 use Rattle.rules.specs.Calls.{cellsCheck, latticeCheck}
 use Rattle.rules.specs.Laws.Surface.{Same, length-store, control-store, control-within}
@@ -161,8 +161,8 @@ module _ {file : List ℕ} {m n : ℕ} {lattice : List ℤ} (w : Writable m n la
   read-value : (r c : ℕ) → r < n + 3 → c < m + 3 → valueAt file (rowStart m r + 4 + 8 * c) ≡ control m lattice c r
   read-value r c k l = value-read (in-range r c k l) (x .row r k .value c l)
 
-  head-met : headCheck file ≡ none
-  unfolding headCheck
+  head-met : latticeHeadCheck file ≡ none
+  unfolding latticeHeadCheck
   head-met =
       then-none _ _ (record-met LH (unfold LH in refl) file 0 6 (spans-fits (x .up) (omega arith)) (x .head))
       ∙ then-none _ _ (require-met _ _ (rw read-m (w .across)))
@@ -198,7 +198,7 @@ module _ {file : List ℕ} {m n : ℕ} {lattice : List ℤ} (w : Writable m n la
 -- ---- what an accepted file has shown
 
 module _ (file : List ℕ) (e : latticeFileCheck file ≡ none) where
-  head-none : headCheck file ≡ none
+  head-none : latticeHeadCheck file ≡ none
   unfolding latticeFileCheck
   head-none = then-first _ _ e
 
@@ -216,7 +216,7 @@ module _ (file : List ℕ) (e : latticeFileCheck file ≡ none) where
       inRange-size _ (required _ _ (firstOf-none (fileM file + 3) _ (then-rest _ _ (then-rest _ _ (row-none r k))) c l))
 
   pub read-writable : Writable (fileM file) (fileN file) (fileLattice file)
-  unfolding headCheck fileLattice store
+  unfolding latticeHeadCheck fileLattice store
   read-writable = record {
     across = required _ _ (then-first _ _ (then-rest _ _ head-none));
     up = required _ _ (then-rest _ _ (then-rest _ _ head-none));
@@ -241,7 +241,7 @@ module _ (file : List ℕ) (e : latticeFileCheck file ≡ none) where
       }
 
   read-fields : AreBytes file → Fields file (fileM file) (fileN file) (fileLattice file)
-  unfolding headCheck endCheck latticeFileLength fileM fileN
+  unfolding latticeHeadCheck endCheck latticeFileLength fileM fileN
   read-fields h =
       let s = rowStart (fileM file) (fileN file + 3) in
       let fits = record-fits LH (unfold LH in refl) file 0 6 (then-first _ _ head-none) in
@@ -265,11 +265,11 @@ pub record Reads (file : List ℕ) (m n : ℕ) (values : List ℤ) : Type 0 wher
   pub across : fileM file ≡ m
   pub up : fileN file ≡ n
   pub lattice : fileLattice file ≡ values
-  pub answers : (output : List ℤ) → controls m n ≤ length output → readLatticeAnswer file output ≡ accepted (record { m = m; n = n })
-  pub leaves : (output : List ℤ) → controls m n ≤ length output → readLatticeLeaves file output ≡ over values output
+  pub reads : (output : List ℤ) → controls m n ≤ length output
+      → readLatticeCall file output ≡ outcome (accepted (record { m = m; n = n })) (over values output)
 
 pub read-written : (m n : ℕ) (lattice : List ℤ) → Writable m n lattice → Reads (latticeFile m n lattice) m n (take (controls m n) lattice)
-unfolding readLatticeAnswer readLatticeLeaves readLatticeCheck answer left
+unfolding readLatticeCall readLatticeCheck call
 read-written m n lattice w =
     let file = latticeFile m n lattice in
     let x : Fields file m n lattice = file-fields (spans-moved refl (length-latticeFile m n lattice) (spans-whole file)) in
@@ -281,8 +281,7 @@ read-written m n lattice w =
       across = read-m w x;
       up = read-n w x;
       lattice = read-lattice w x;
-      answers = λ output l. rw (checks output l, read-m w x, read-n w x);
-      leaves = λ output l. rw (checks output l, read-lattice w x);
+      reads = λ output l. rw (checks output l, read-m w x, read-n w x, read-lattice w x);
     }
 
 -- ---- the files that the reader accepts

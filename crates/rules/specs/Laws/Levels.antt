@@ -7,7 +7,7 @@ use native.Mathlib.Nat.{sub-self, mul-one, mul-le-mul-left, pow-suc, pow-succ'}
 use native.Mathlib.Omega.{arith}
 use lib.IntN.{ℤ, pos, natAbs, _+ℤ_, _-ℤ_, _*ℤ_, +ℤ-invr}
 use Rattle.algebra.specs.Ring.{*ℤ-assoc, *ℤ-distribl, *ℤ-left-comm}
-use Rattle.algebra.specs.Solver.{var, con, _⊕_, _⊖_, _⊗_, solve}
+use Rattle.algebra.specs.Solver.{var, con, _⊞_, _⊟_, _⊠_, solve}
 use Rattle.algebra.specs.Size.{natAbs-sum, natAbs-product, same-of-natAbs}
 use Rattle.rules.specs.Grid.{Lattice, cellsAt}
 use Rattle.rules.specs.Surface.{surface}
@@ -56,7 +56,7 @@ refined-surface U m n f x y =
     ∙ ap (λ z. z +ℤ S (excess f)) (sym (two-scale2 U m n f x y))
   where
     parts : (r v : ℤ) → r ≡ v +ℤ (r -ℤ v)
-    parts r v = solve (var 0) (var 1 ⊕ (var 0 ⊖ var 1)) (r ∷ v ∷ []) tt
+    parts r v = solve (var 0) (var 1 ⊞ (var 0 ⊟ var 1)) (r ∷ v ∷ []) tt
 
 -- a surface that is added at level k + 1, where twice its control values are at most 64E
 scaled-bound : (u m n x y : ℕ) → Inside u m n x y → (k E : ℕ) (f : Lattice) → Bounded m n (λ s t. pos 2 *ℤ f s t) (64 * E)
@@ -186,9 +186,9 @@ module _ (m0 n0 x y : ℕ) where
         parts P r l s c e h =
             let p = var 0 in
             let n = con (pos 64) in
-            solve (p ⊗ n ⊗ (var 1 ⊕ var 2) ⊖ (var 3 ⊕ p ⊗ n ⊗ var 2)) (p ⊗ (n ⊗ var 1) ⊖ var 3) (P ∷ r ∷ l ∷ s ∷ []) tt
+            solve (p ⊠ n ⊠ (var 1 ⊞ var 2) ⊟ (var 3 ⊞ p ⊠ n ⊠ var 2)) (p ⊠ (n ⊠ var 1) ⊟ var 3) (P ∷ r ∷ l ∷ s ∷ []) tt
             ∙ ap (λ z. P *ℤ z -ℤ s) h
-            ∙ solve (p ⊗ (var 1 ⊕ var 2) ⊖ var 3) (p ⊗ var 1 ⊖ var 3 ⊕ p ⊗ var 2) (P ∷ c ∷ e ∷ s ∷ []) tt
+            ∙ solve (p ⊠ (var 1 ⊞ var 2) ⊟ var 3) (p ⊠ var 1 ⊟ var 3 ⊞ p ⊠ var 2) (P ∷ c ∷ e ∷ s ∷ []) tt
 
     -- Twice the excess is at most 64E at every place: E is 1 where values are rounded and 0 where none is. Then twice the surface is off by at
     -- most E a level, over the denominator 36(u·2^k)⁶. The induction is over k for every u: a level back the cells are twice as wide.

@@ -1,9 +1,10 @@
 -- The laws of floor and near, for any divisor d ≥ 1: their bounds, that these fix them, and what follows from near's distance alone.
 use mathlib.Core.Path.{_≡_, refl, sym, ap, subst}
-use mathlib.Core.Logic.{_↔_, inl, inr}
+use mathlib.Core.Logic.{inl, inr}
 use Prim.Native.Nat.{ℕ, _+_, _*_, _≤_, _<_, zero-le}
 use native.Mathlib.Nat.{div-add-mod, mod-lt, div-div-eq-div-mul, le-of-mul-le-mul-left}
 use native.Mathlib.Omega.{arith}
+use native.Mathlib.Decide.{decLt}
 use lib.IntN.{ℤ, pos, negsuc, natAbs, _+ℤ_, _-ℤ_, _*ℤ_, +ℤ-idr, +ℤ-invr, *ℤ-comm}
 use lib.Signed.{shrZ, _≤ℤ_, _<ℤ_, ≤ℤ-refl}
 use Rattle.algebra.specs.Difference.{split, whole}
@@ -38,40 +39,85 @@ floor-unique v d n h f = ≤ℤ-antisym (below v d n (floor v d) f g) (below v d
     g : Floored v d (floor v d)
     g = floor-bound v d h
 
--- ---- near
+-- ---- near: its distance, and its tie rule. This section alone knows where an exact half goes
 
--- n is the nearest whole number to v / d, an exact half going to the larger
+-- n is no more than a half away from v / d
+abbrev pub WithinHalf : ℤ → ℕ → ℤ → Type 0
+WithinHalf v d n = natAbs (pos 2 *ℤ (pos d *ℤ n -ℤ v)) ≤ d
+
+-- where it is exactly a half away, n is the larger of the two such numbers
+unfoldable pub Tie : ℤ → ℕ → ℤ → Type 0
+Tie v d n = natAbs (pos 2 *ℤ (pos d *ℤ n -ℤ v)) ≡ d → v <ℤ (pos d *ℤ n)
+
+-- n is the nearest whole number to v / d
 pub record Nearest (v : ℤ) (d : ℕ) (n : ℤ) : Type 0 where
-  pub low : ((pos 2 *ℤ n -ℤ pos 1) *ℤ pos d) ≤ℤ (pos 2 *ℤ v)
-  pub high : (pos 2 *ℤ v) <ℤ ((pos 2 *ℤ n +ℤ pos 1) *ℤ pos d)
+  pub distance : WithinHalf v d n
+  pub tie : Tie v d n
+
+-- so v / d is below n + 1/2, and a number of which that is known meets the rule
+pub nearest-below : {v : ℤ} {d : ℕ} {n : ℤ} → 0 < d → Nearest v d n → (pos 2 *ℤ v) <ℤ ((pos 2 *ℤ n +ℤ pos 1) *ℤ pos d)
+unfolding Tie
+nearest-below {v} {d} {n} h f = go (decLt (natAbs (pos 2 *ℤ (pos d *ℤ n -ℤ v))) d)
+  where
+    less : (v n : ℤ) → natAbs (pos 2 *ℤ (pos d *ℤ n -ℤ v)) < d → (pos 2 *ℤ v) <ℤ ((pos 2 *ℤ n +ℤ pos 1) *ℤ pos d)
+    less v n = rw (split v, split n) (simp whole (omega arith))
+
+    tied : (v n : ℤ) → v <ℤ (pos d *ℤ n) → (pos 2 *ℤ v) <ℤ ((pos 2 *ℤ n +ℤ pos 1) *ℤ pos d)
+    tied v n = rw (split v, split n) (simp whole (omega arith))
+
+    go : Dec (natAbs (pos 2 *ℤ (pos d *ℤ n -ℤ v)) < d) → (pos 2 *ℤ v) <ℤ ((pos 2 *ℤ n +ℤ pos 1) *ℤ pos d)
+    go (yes l) = less v n l
+    go (no g) = tied v n (f .tie (omega (arith, f .distance)))
+
+pub below-tie : (v : ℤ) (d : ℕ) (n : ℤ) → 0 < d → (pos 2 *ℤ v) <ℤ ((pos 2 *ℤ n +ℤ pos 1) *ℤ pos d) → Tie v d n
+unfolding Tie
+below-tie v d n h = rw (split v, split n) (simp whole (omega arith))
 
 -- which says that n is the floor of (2v + d) / 2d
-low-same : (v n : ℤ) (d : ℕ) → (((pos 2 *ℤ n -ℤ pos 1) *ℤ pos d) ≤ℤ (pos 2 *ℤ v)) ↔ ((pos (2 * d) *ℤ n) ≤ℤ (pos 2 *ℤ v +ℤ pos d))
-low-same v n d = rw (split v, split n) (simp whole (omega arith))
-
-high-same : (v n : ℤ) (d : ℕ) → ((pos 2 *ℤ v) <ℤ ((pos 2 *ℤ n +ℤ pos 1) *ℤ pos d)) ↔ ((pos 2 *ℤ v +ℤ pos d) <ℤ (pos (2 * d) *ℤ (n +ℤ pos 1)))
-high-same v n d = rw (split v, split n) (simp whole (omega arith))
-
 pub near-nearest : (v : ℤ) (d : ℕ) → 0 < d → Nearest v d (near v d)
 unfolding near
-near-nearest v d h = record { low = low-same v (near v d) d .1 (f .low); high = high-same v (near v d) d .1 (f .high) }
+near-nearest v d h = record { distance = close v (near v d) (f .low) (f .high); tie = below-tie v d (near v d) h (below v (near v d) (f .high)) }
   where
     f : Floored (pos 2 *ℤ v +ℤ pos d) (2 * d) (near v d)
     f = floor-bound (pos 2 *ℤ v +ℤ pos d) (2 * d) (omega arith)
 
+    close : (v n : ℤ) → (pos (2 * d) *ℤ n) ≤ℤ (pos 2 *ℤ v +ℤ pos d) → (pos 2 *ℤ v +ℤ pos d) <ℤ (pos (2 * d) *ℤ (n +ℤ pos 1)) → WithinHalf v d n
+    close v n = rw (split v, split n) (simp whole (omega arith))
+
+    below : (v n : ℤ) → (pos 2 *ℤ v +ℤ pos d) <ℤ (pos (2 * d) *ℤ (n +ℤ pos 1)) → (pos 2 *ℤ v) <ℤ ((pos 2 *ℤ n +ℤ pos 1) *ℤ pos d)
+    below v n = rw (split v, split n) (simp whole (omega arith))
+
 pub nearest-unique : (v : ℤ) (d : ℕ) (n : ℤ) → 0 < d → Nearest v d n → n ≡ near v d
 unfolding near
 nearest-unique v d n h f =
-    floor-unique (pos 2 *ℤ v +ℤ pos d) (2 * d) n (omega arith)
-    (record { low = low-same v n d .0 (f .low); high = high-same v n d .0 (f .high) })
-
-pub near-distance : (v : ℤ) (d : ℕ) → 0 < d → natAbs (pos 2 *ℤ (pos d *ℤ near v d -ℤ v)) ≤ d
-near-distance v d h = close v (near v d) (near-nearest v d h .low) (near-nearest v d h .high)
+    floor-unique (pos 2 *ℤ v +ℤ pos d) (2 * d) n (omega arith) (record { low = low v n (f .distance); high = high v n (nearest-below h f) })
   where
-    close : (v n : ℤ) → ((pos 2 *ℤ n -ℤ pos 1) *ℤ pos d) ≤ℤ (pos 2 *ℤ v) → (pos 2 *ℤ v) <ℤ ((pos 2 *ℤ n +ℤ pos 1) *ℤ pos d) → natAbs (pos 2 *ℤ (pos d *ℤ n -ℤ v)) ≤ d
+    low : (v n : ℤ) → WithinHalf v d n → (pos (2 * d) *ℤ n) ≤ℤ (pos 2 *ℤ v +ℤ pos d)
+    low v n = rw (split v, split n) (simp whole (omega arith))
+
+    high : (v n : ℤ) → (pos 2 *ℤ v) <ℤ ((pos 2 *ℤ n +ℤ pos 1) *ℤ pos d) → (pos 2 *ℤ v +ℤ pos d) <ℤ (pos (2 * d) *ℤ (n +ℤ pos 1))
+    high v n = rw (split v, split n) (simp whole (omega arith))
+
+-- over an even divisor code adds its half, and takes the floor
+pub near-even : (v : ℤ) (d : ℕ) → 0 < d → near v (2 * d) ≡ floor (v +ℤ pos d) (2 * d)
+near-even v d h = sym (nearest-unique v (2 * d) n (omega arith) (record { distance = close v n (f .low) (f .high); tie = below-tie v (2 * d) n (omega arith) (below v n (f .high)) }))
+  where
+    n : ℤ
+    n = floor (v +ℤ pos d) (2 * d)
+
+    f : Floored (v +ℤ pos d) (2 * d) n
+    f = floor-bound (v +ℤ pos d) (2 * d) (omega arith)
+
+    close : (v n : ℤ) → (pos (2 * d) *ℤ n) ≤ℤ (v +ℤ pos d) → (v +ℤ pos d) <ℤ (pos (2 * d) *ℤ (n +ℤ pos 1)) → WithinHalf v (2 * d) n
     close v n = rw (split v, split n) (simp whole (omega arith))
 
+    below : (v n : ℤ) → (v +ℤ pos d) <ℤ (pos (2 * d) *ℤ (n +ℤ pos 1)) → (pos 2 *ℤ v) <ℤ ((pos 2 *ℤ n +ℤ pos 1) *ℤ pos (2 * d))
+    below v n = rw (split v, split n) (simp whole (omega arith))
+
 -- ---- what follows from the distance alone, however an exact half is treated
+
+pub near-distance : (v : ℤ) (d : ℕ) → 0 < d → natAbs (pos 2 *ℤ (pos d *ℤ near v d -ℤ v)) ≤ d
+near-distance v d h = near-nearest v d h .distance
 
 -- r rounds the multiples of 1 / d to whole numbers: 2 |d · r v - v| ≤ d
 pub record Rounds (d : ℕ) (r : ℤ → ℤ) : Type 0 where
@@ -126,7 +172,7 @@ near-exact-right n d h = rw (*ℤ-comm n (pos d)) (near-exact n d h)
 pub near-within : (v : ℤ) (d B : ℕ) → 0 < d → natAbs v ≤ d * B → natAbs (near v d) ≤ B
 near-within v d B h = rounds-within (near-rounds d h) v B
 
--- ---- how code divides: by a shift, step by step, and over an even divisor by adding its half
+-- ---- how code divides: by a shift, and step by step
 
 pub shift-floor : (v : ℤ) (d : ℕ) → shrZ v d ≡ floor v d
 unfolding floor
@@ -137,19 +183,3 @@ pub floor-floor : (v : ℤ) (a b : ℕ) → floor (floor v a) b ≡ floor v (a *
 unfolding floor
 floor-floor (pos n) a b = ap pos (div-div-eq-div-mul n a b)
 floor-floor (negsuc n) a b = ap negsuc (div-div-eq-div-mul n a b)
-
-pub near-even : (v : ℤ) (d : ℕ) → 0 < d → near v (2 * d) ≡ floor (v +ℤ pos d) (2 * d)
-unfolding near
-near-even v d h = sym (floor-unique (pos 2 *ℤ v +ℤ pos (2 * d)) (2 * (2 * d)) n (omega arith) (record { low = low v n (f .low); high = high v n (f .high) }))
-  where
-    n : ℤ
-    n = floor (v +ℤ pos d) (2 * d)
-
-    f : Floored (v +ℤ pos d) (2 * d) n
-    f = floor-bound (v +ℤ pos d) (2 * d) (omega arith)
-
-    low : (v n : ℤ) → (pos (2 * d) *ℤ n) ≤ℤ (v +ℤ pos d) → (pos (2 * (2 * d)) *ℤ n) ≤ℤ (pos 2 *ℤ v +ℤ pos (2 * d))
-    low v n = rw (split v, split n) (simp whole (omega arith))
-
-    high : (v n : ℤ) → (v +ℤ pos d) <ℤ (pos (2 * d) *ℤ (n +ℤ pos 1)) → (pos 2 *ℤ v +ℤ pos (2 * d)) <ℤ (pos (2 * (2 * d)) *ℤ (n +ℤ pos 1))
-    high v n = rw (split v, split n) (simp whole (omega arith))

@@ -7,7 +7,7 @@ use native.Mathlib.Nat.{mul-pos, mul-le-mul-left, mul-le-mul-right, mul-assoc, m
 use native.Mathlib.Omega.{arith}
 use lib.IntN.{ℤ, pos, natAbs, _+ℤ_, _-ℤ_, _*ℤ_, +ℤ-negℤ-cancel, -ℤ-+ℤ-cancel}
 use lib.ListN.{length, getD, drop, List·getD-append}
-use Rattle.algebra.specs.Solver.{var, con, _⊕_, _⊗_, _⊖_, solve}
+use Rattle.algebra.specs.Solver.{var, con, _⊞_, _⊠_, _⊟_, solve}
 use Rattle.algebra.specs.Size.{natAbs-sum, natAbs-product}
 use Rattle.algebra.specs.Table.{over, length-tabulate, getD-tabulate}
 use Rattle.rules.specs.Rounding.{near}
@@ -141,7 +141,7 @@ height-distance U m n x y i f =
     parts F h a s =
         let d = var 0 in
         let two = con (pos 2) in
-        solve (two ⊗ (d ⊗ d ⊗ var 1 ⊖ var 3)) (d ⊗ (two ⊗ (d ⊗ var 1 ⊖ var 2)) ⊕ two ⊗ (d ⊗ var 2 ⊖ var 3)) (F ∷ h ∷ a ∷ s ∷ []) tt
+        solve (two ⊠ (d ⊠ d ⊠ var 1 ⊟ var 3)) (d ⊠ (two ⊠ (d ⊠ var 1 ⊟ var 2)) ⊞ two ⊠ (d ⊠ var 2 ⊟ var 3)) (F ∷ h ∷ a ∷ s ∷ []) tt
 
 -- ---- storage
 

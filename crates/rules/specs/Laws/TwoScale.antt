@@ -7,10 +7,10 @@ use native.Mathlib.Nat.{div-div-eq-div-mul, mul-comm}
 use native.Mathlib.Decide.{decLt}
 use native.Mathlib.Omega.{arith}
 use lib.IntN.{ℤ, pos, natAbs, _+ℤ_, _*ℤ_}
-use Rattle.algebra.specs.Solver.{Expr, var, con, _⊕_, _⊗_, solve}
+use Rattle.algebra.specs.Solver.{Expr, var, con, _⊞_, _⊠_, solve}
 use Rattle.algebra.specs.Size.{natAbs-sum, natAbs-product}
 use Rattle.rules.specs.Grid.{Lattice}
-use Rattle.rules.specs.Surface.{square, cube, numerator, cell, offset, along, surface}
+use Rattle.rules.specs.Surface.{square, cube, numerator, cell, offset, weighted, along, surface}
 use Rattle.rules.specs.Laws.Basis.{quoted, cell-offset, along-sum, along-scale}
 use Rattle.rules.specs.Refinement.{masked, finer, finer2}
 
@@ -48,10 +48,10 @@ finer-at p f i h =
 
 -- the two masks, for the solver: v k quotes the value k places on
 even : (ℕ → Expr) → Expr
-even v = con (pos 4) ⊗ v 0 ⊕ con (pos 4) ⊗ v 1
+even v = con (pos 4) ⊠ v 0 ⊞ con (pos 4) ⊠ v 1
 
 odd : (ℕ → Expr) → Expr
-odd v = v 0 ⊕ con (pos 6) ⊗ v 1 ⊕ v 2
+odd v = v 0 ⊞ con (pos 6) ⊠ v 1 ⊞ v 2
 
 from : ℕ → ℕ → Expr
 from i k = var (i + k)
@@ -59,9 +59,9 @@ from i k = var (i + k)
 masked-sum : (p : ℕ) (f g : ℕ → ℤ) (c : ℕ) → masked p (λ s. f s +ℤ g s) c ≡ masked p f c +ℤ masked p g c
 unfolding masked even odd from
 masked-sum zero f g c =
-    solve (even (λ k. from 0 k ⊕ from 2 k)) (even (from 0) ⊕ even (from 2)) (f c ∷ f (c + 1) ∷ g c ∷ g (c + 1) ∷ []) tt
+    solve (even (λ k. from 0 k ⊞ from 2 k)) (even (from 0) ⊞ even (from 2)) (f c ∷ f (c + 1) ∷ g c ∷ g (c + 1) ∷ []) tt
 masked-sum (suc p) f g c =
-    solve (odd (λ k. from 0 k ⊕ from 3 k)) (odd (from 0) ⊕ odd (from 3)) (f c ∷ f (c + 1) ∷ f (c + 2) ∷ g c ∷ g (c + 1) ∷ g (c + 2) ∷ []) tt
+    solve (odd (λ k. from 0 k ⊞ from 3 k)) (odd (from 0) ⊞ odd (from 3)) (f c ∷ f (c + 1) ∷ f (c + 2) ∷ g c ∷ g (c + 1) ∷ g (c + 2) ∷ []) tt
 
 pub finer-sum : (f g : ℕ → ℤ) (s : ℕ) → finer (λ r. f r +ℤ g r) s ≡ finer f s +ℤ finer g s
 unfolding finer
@@ -69,8 +69,8 @@ finer-sum f g s = masked-sum (s % 2) f g (s / 2)
 
 masked-multiple : (p : ℕ) (k : ℤ) (f : ℕ → ℤ) (c : ℕ) → masked p (λ s. k *ℤ f s) c ≡ k *ℤ masked p f c
 unfolding masked even odd from
-masked-multiple zero k f c = solve (even (λ i. var 0 ⊗ from 1 i)) (var 0 ⊗ even (from 1)) (k ∷ f c ∷ f (c + 1) ∷ []) tt
-masked-multiple (suc p) k f c = solve (odd (λ i. var 0 ⊗ from 1 i)) (var 0 ⊗ odd (from 1)) (k ∷ f c ∷ f (c + 1) ∷ f (c + 2) ∷ []) tt
+masked-multiple zero k f c = solve (even (λ i. var 0 ⊠ from 1 i)) (var 0 ⊠ even (from 1)) (k ∷ f c ∷ f (c + 1) ∷ []) tt
+masked-multiple (suc p) k f c = solve (odd (λ i. var 0 ⊠ from 1 i)) (var 0 ⊠ odd (from 1)) (k ∷ f c ∷ f (c + 1) ∷ f (c + 2) ∷ []) tt
 
 pub finer-multiple : (k : ℤ) (f : ℕ → ℤ) (s : ℕ) → finer (λ r. k *ℤ f r) s ≡ k *ℤ finer f s
 unfolding finer
@@ -149,14 +149,14 @@ weigh U a p q r s = numerator U a 0 *ℤ p +ℤ numerator U a 1 *ℤ q +ℤ nume
 
 -- `weigh`, for the solver
 weighed : Expr → Expr → Expr → Expr → Expr → Expr → Expr
-weighed U a p q r s = quoted U a 0 ⊗ p ⊕ quoted U a 1 ⊗ q ⊕ quoted U a 2 ⊗ r ⊕ quoted U a 3 ⊗ s
+weighed U a p q r s = quoted U a 0 ⊠ p ⊞ quoted U a 1 ⊠ q ⊞ quoted U a 2 ⊠ r ⊞ quoted U a 3 ⊠ s
 
 first-half : (U a p q r s : ℤ)
     → weigh (pos 2 *ℤ U) a p q r s
     ≡ weigh U a (pos 4 *ℤ p +ℤ pos 4 *ℤ q) (p +ℤ pos 6 *ℤ q +ℤ r) (pos 4 *ℤ q +ℤ pos 4 *ℤ r) (q +ℤ pos 6 *ℤ r +ℤ s)
 unfolding weigh numerator square cube quoted weighed even odd from
 first-half U a p q r s =
-    solve (weighed (con (pos 2) ⊗ var 4) (var 5) (var 0) (var 1) (var 2) (var 3)) (weighed (var 4) (var 5) (even (from 0)) (odd (from 0)) (even (from 1)) (odd (from 1)))
+    solve (weighed (con (pos 2) ⊠ var 4) (var 5) (var 0) (var 1) (var 2) (var 3)) (weighed (var 4) (var 5) (even (from 0)) (odd (from 0)) (even (from 1)) (odd (from 1)))
     (p ∷ q ∷ r ∷ s ∷ U ∷ a ∷ []) tt
 
 second-half : (U a p q r s : ℤ)
@@ -164,11 +164,11 @@ second-half : (U a p q r s : ℤ)
     ≡ weigh U a (p +ℤ pos 6 *ℤ q +ℤ r) (pos 4 *ℤ q +ℤ pos 4 *ℤ r) (q +ℤ pos 6 *ℤ r +ℤ s) (pos 4 *ℤ r +ℤ pos 4 *ℤ s)
 unfolding weigh numerator square cube quoted weighed even odd from
 second-half U a p q r s =
-    solve (weighed (con (pos 2) ⊗ var 4) (var 4 ⊕ var 5) (var 0) (var 1) (var 2) (var 3)) (weighed (var 4) (var 5) (odd (from 0)) (even (from 1)) (odd (from 1)) (even (from 2)))
+    solve (weighed (con (pos 2) ⊠ var 4) (var 4 ⊞ var 5) (var 0) (var 1) (var 2) (var 3)) (weighed (var 4) (var 5) (odd (from 0)) (even (from 1)) (odd (from 1)) (even (from 2)))
     (p ∷ q ∷ r ∷ s ∷ U ∷ a ∷ []) tt
 
 pub two-scale : (U m x : ℕ) (f : ℕ → ℤ) → along (2 * U) m x f ≡ along U (2 * m) x (finer f)
-unfolding along weigh
+unfolding along weighted weigh
 two-scale U m x f = go (halves U m x)
   where
     c : ℕ

@@ -2,7 +2,7 @@
 use borrow.Author.Needs.{needs}
 use borrow.Author.Tests.{le-leb, lt-leb, eq-eqb, ne-eqb}
 use Rattle.rules.specs.Answers.{require, _then_}
-use Rattle.rules.specs.Calls.{levelsCountCheck, listsCheck}
+use Rattle.rules.specs.Calls.{surveyCheck, hCheck, listsCheck}
 use Rattle.survey.proofs.head.Statement.{statement}
 use Rattle.survey.proofs.head.Tie as tie
 
@@ -13,23 +13,23 @@ enum-known-r : tie.Need-enum-known-r
 enum-known-r c = search needs
 
 returns : tie.Need-returns
-unfolding _then_
+unfolding surveyCheck _then_
 returns c = rw (← c .before .before .before .cells .ensures, c .before .r .given .1)
 
 enum-told : tie.Need-enum-told
 enum-told c = search needs
 
 returns-2 : tie.Need-returns-2
-unfolding _then_ levelsCountCheck require
+unfolding surveyCheck _then_ hCheck require
 returns-2 c = simp (← c .before .before .before .cells .ensures, c .before .enum-told .given .1, lt-leb _ _ (c .if1 .taken))
 
 returns-3 : tie.Need-returns-3
-unfolding _then_ levelsCountCheck listsCheck require
+unfolding surveyCheck _then_ hCheck listsCheck require
 returns-3 c =
     simp (← c .before .before .before .before .cells .ensures, c .before .before .enum-told .given .1, le-leb _ _ (c .before .if1 .left), ne-eqb _ _ (c .if2 .taken))
 
 returns-4 : tie.Need-returns-4
-unfolding _then_ levelsCountCheck listsCheck require
+unfolding surveyCheck _then_ hCheck listsCheck require
 returns-4 c =
     simp (
       ← c .before .before .before .before .before .cells .ensures,
@@ -40,7 +40,7 @@ returns-4 c =
     )
 
 returns-5 : tie.Need-returns-5
-unfolding _then_ levelsCountCheck listsCheck require
+unfolding surveyCheck _then_ hCheck listsCheck require
 returns-5 c =
     simp (
       ← c .before .before .before .before .before .before .cells .ensures,
@@ -52,7 +52,7 @@ returns-5 c =
     )
 
 returns-6 : tie.Need-returns-6
-unfolding _then_ levelsCountCheck listsCheck require
+unfolding surveyCheck _then_ hCheck listsCheck require
 returns-6 c =
     simp (
       ← c .before .before .before .before .before .before .cells .ensures,

@@ -2,7 +2,6 @@
 use mathlib.Core.Path.{_≡_, sym, ap, _∙_}
 use mathlib.Core.Bool.{true, false}
 use mathlib.Core.Option.{none, some}
-use mathlib.Core.List.{List}
 use Prim.Native.Nat.{ℕ, _-_, _*_, _≤_, _<_}
 use native.Mathlib.Omega.{arith}
 use borrow.Author.Needs.{needs}
@@ -12,15 +11,15 @@ use lib.IntN.{ℤ, pos}
 use lib.ListN.{length, getD}
 use Rattle.machine.specs.Tests.{plain}
 use Rattle.rules.specs.Grid.{inRange, inside}
-use Rattle.rules.specs.Answers.{Refusal, position, range, require, _then_}
-use Rattle.rules.specs.Calls.{pointsCheck}
+use Rattle.rules.specs.Fit.{Survey, survey, pointCount, pointAt}
+use Rattle.rules.specs.Answers.{Refusal, Check, position, range, require, _then_}
+use Rattle.rules.specs.Calls.{pointCheck, pointsCheck}
 use Rattle.rules.specs.Laws.Checks.{firstOf-all, firstOf-at}
-use Rattle.survey.specs.Passed.{pointCheck}
 use Rattle.survey.proofs.points.Statement.{statement}
 use Rattle.survey.proofs.points.Tie as tie
 
 abbrev Inv-loop : tie.InvT-loop
-Inv-loop m n xs ys zs right top i₀ i = (i ≤ length xs) × ((k : ℕ) → k < i → pointCheck 16 m n xs ys zs k ≡ none)
+Inv-loop m n xs ys zs right top i₀ i = (i ≤ length xs) × ((k : ℕ) → k < i → pointCheck 16 m n k (pointAt (survey xs ys zs) k) ≡ none)
 
 abbrev μ-loop : tie.MeasureT-loop
 μ-loop m n xs ys zs right top i₀ i = length xs - i
@@ -35,28 +34,30 @@ height c =
 height-tested : (c : tie.After-in-range Inv-loop μ-loop) → c .in-range .result ≡ inRange (height c)
 height-tested c = c .in-range .ensures ∙ ap inRange (plain (height c) (c .before .in-range-arg .given))
 
-module _ (m n : ℕ) (xs ys : List ℕ) (zs : List ℤ) (i : ℕ) where
-  past-right : 16 * m < getD xs i 0 → pointCheck 16 m n xs ys zs i ≡ some (position i)
+module _ (m n : ℕ) (s : Survey) (i : ℕ) where
+  abbrev found : Check
+  found = pointCheck 16 m n i (pointAt s i)
+
+  past-right : 16 * m < pointAt s i .x → found ≡ some (position i)
   unfolding pointCheck require _then_ inside
   past-right x = simp (lt-leb _ _ x)
 
-  past-top : getD xs i 0 ≤ 16 * m → 16 * n < getD ys i 0 → pointCheck 16 m n xs ys zs i ≡ some (position i)
+  past-top : pointAt s i .x ≤ 16 * m → 16 * n < pointAt s i .y → found ≡ some (position i)
   unfolding pointCheck require _then_ inside
   past-top x y = simp (le-leb _ _ x, lt-leb _ _ y)
 
-  out : getD xs i 0 ≤ 16 * m → getD ys i 0 ≤ 16 * n → inRange (getD zs i (pos 0)) ≡ false → pointCheck 16 m n xs ys zs i ≡ some (range i)
+  out : pointAt s i .x ≤ 16 * m → pointAt s i .y ≤ 16 * n → inRange (pointAt s i .z) ≡ false → found ≡ some (range i)
   unfolding pointCheck require _then_ inside
   out x y z = simp (le-leb _ _ x, le-leb _ _ y, z)
 
-  fine : getD xs i 0 ≤ 16 * m → getD ys i 0 ≤ 16 * n → inRange (getD zs i (pos 0)) ≡ true → pointCheck 16 m n xs ys zs i ≡ none
+  fine : pointAt s i .x ≤ 16 * m → pointAt s i .y ≤ 16 * n → inRange (pointAt s i .z) ≡ true → found ≡ none
   unfolding pointCheck require _then_ inside
   fine x y z = simp (le-leb _ _ x, le-leb _ _ y, z)
 
   -- point i is the first that is refused
-  first : (r : Refusal) → ((k : ℕ) → k < i → pointCheck 16 m n xs ys zs k ≡ none) → i < length xs → pointCheck 16 m n xs ys zs i ≡ some r
-      → some r ≡ pointsCheck 16 m n xs ys zs
-  unfolding pointsCheck pointCheck
-  first r before l e = sym (firstOf-at (length xs) i (pointCheck 16 m n xs ys zs) r (firstOf-all i (pointCheck 16 m n xs ys zs) before) l e)
+  first : (r : Refusal) → ((k : ℕ) → k < i → pointCheck 16 m n k (pointAt s k) ≡ none) → i < pointCount s → found ≡ some r → some r ≡ pointsCheck 16 m n s
+  unfolding pointsCheck
+  first r before l e = sym (firstOf-at (pointCount s) i _ r (firstOf-all i _ before) l e)
 
 mul-right : tie.Need-mul-right Inv-loop μ-loop
 mul-right c = omega arith
@@ -79,7 +80,9 @@ cast-if1 c = omega (arith, c .shared-slice-known3 .given (c .before .before .loo
 returns : tie.Need-returns Inv-loop μ-loop
 returns c =
     let p = c .before .before .before in
-    first _ _ _ _ _ _ _ (p .loop .inv .1) (c .before .before .loop-test .taken) (past-right _ _ _ _ _ _ (c .if1 .taken))
+    let a = p .before .before .before .args in
+    let s = survey (a .xs .now) (a .ys .now) (a .zs .now) in
+    first (a .m) (a .n) s (p .loop .i) _ (p .loop .inv .1) (c .before .before .loop-test .taken) (past-right (a .m) (a .n) s (p .loop .i) (c .if1 .taken))
 
 mul-if2 : tie.Need-mul-if2 Inv-loop μ-loop
 mul-if2 c = omega arith
@@ -93,8 +96,10 @@ cast-if2 c = omega (arith, c .shared-slice-known4 .given (c .before .before .bef
 returns-2 : tie.Need-returns-2 Inv-loop μ-loop
 returns-2 c =
     let p = c .before .before .before .before .before in
-    first _ _ _ _ _ _ _ (p .loop .inv .1) (c .before .before .before .before .loop-test .taken)
-    (past-top _ _ _ _ _ _ (c .before .before .if1 .left) (c .if2 .taken))
+    let a = p .before .before .before .args in
+    let s = survey (a .xs .now) (a .ys .now) (a .zs .now) in
+    first (a .m) (a .n) s (p .loop .i) _ (p .loop .inv .1) (c .before .before .before .before .loop-test .taken)
+    (past-top (a .m) (a .n) s (p .loop .i) (c .before .before .if1 .left) (c .if2 .taken))
 
 mul-in-range : tie.Need-mul-in-range Inv-loop μ-loop
 mul-in-range c = omega arith
@@ -109,8 +114,10 @@ returns-3 : tie.Need-returns-3 Inv-loop μ-loop
 returns-3 c =
     let q = c .before .before .before in
     let p = q .before .before .before .before .before in
-    first _ _ _ _ _ _ _ (p .loop .inv .1) (q .before .before .before .before .loop-test .taken)
-    (out _ _ _ _ _ _ (q .before .before .if1 .left) (q .if2 .left) (sym (height-tested (c .before)) ∙ not-true _ (c .if3 .taken)))
+    let a = p .before .before .before .args in
+    let s = survey (a .xs .now) (a .ys .now) (a .zs .now) in
+    first (a .m) (a .n) s (p .loop .i) _ (p .loop .inv .1) (q .before .before .before .before .loop-test .taken)
+    (out (a .m) (a .n) s (p .loop .i) (q .before .before .if1 .left) (q .if2 .left) (sym (height-tested (c .before)) ∙ not-true _ (c .if3 .taken)))
 
 add-i : tie.Need-add-i Inv-loop μ-loop
 add-i c = omega arith
@@ -121,13 +128,15 @@ loop-less c = omega arith
 loop-again : tie.Need-loop-again Inv-loop μ-loop
 loop-again c =
     let q = c .before .before .before in
-    let p = q .before .before .before .before .before in (
+    let p = q .before .before .before .before .before in
+    let a = p .before .before .before .args in
+    let s = survey (a .xs .now) (a .ys .now) (a .zs .now) in (
       omega arith,
-      below-more _ _ (p .loop .inv .1) (fine _ _ _ _ _ _ (q .before .before .if1 .left) (q .if2 .left) (sym (height-tested (c .before)) ∙ not-false _ (c .if3 .left))),
+      below-more _ _ (p .loop .inv .1) (fine (a .m) (a .n) s (p .loop .i) (q .before .before .if1 .left) (q .if2 .left) (sym (height-tested (c .before)) ∙ not-false _ (c .if3 .left))),
     )
 
 returns-4 : tie.Need-returns-4 Inv-loop μ-loop
-unfolding pointsCheck pointCheck
+unfolding pointsCheck
 returns-4 c =
     let p = c .before in
     let last : length (p .before .before .before .args .xs .now) ≡ p .loop .i = omega arith in

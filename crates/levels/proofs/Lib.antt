@@ -1,0 +1,5 @@
+mod Sizes
+mod Judging
+mod Raising
+mod Settling
+mod Stepping

@@ -1,0 +1,148 @@
+-- What checks that refuse nothing have shown: the bounds that a call goes on with.
+use Prim.Native.Nat.{ℕ, _*_, _≤_, _<_}
+use mathlib.Core.Path.{_≡_, refl, sym, _∙_}
+use mathlib.Core.Bool.{_&&_}
+use mathlib.Core.Option.{none, some}
+use mathlib.Core.List.{List}
+use native.Mathlib.Nat.{mul-pos, mul-le-mul, one-le-pow}
+use native.Mathlib.Omega.{arith}
+use lib.Dec.{T, leb, eqb, leb→le, le→leb, eqb→eq, eqb-refl}
+use lib.IntN.{ℤ, natAbs}
+use lib.ListN.{length}
+use lib.Pow.{pow-mono}
+use mir.Facts.{and-yes, yes-and}
+use Rattle.algebra.specs.Table.{over}
+use Rattle.rules.specs.Grid.{limit, within, inside, cellsAt, controls}
+use Rattle.rules.specs.Fit.{Shape, Survey, pointCount, pointAt, singleLattice}
+use Rattle.rules.specs.Answers.{Refusal, Check, cells, levels, lists, position, range, accepted, refused}
+use Rattle.rules.specs.Calls.{cellsCheck, hCheck, listsCheck, latticeCheck, pointCheck, pointsCheck, surveyCheck}
+use Rattle.rules.specs.Calls.{CellCounts, Lent, fitCheck, finest, results, cleared, fitEnd, fitCall}
+use Rattle.rules.specs.Laws.Checks.{required, require-met, within-bounds, bounds-within, then-first, then-rest, then-none, firstOf-none, firstOf-all, AllInRange, inRange-size, size-inRange, rangeCheck-size}
+
+-- ---- cell counts
+
+-- 1 to `most` cells a side
+abbrev pub Sides : ℕ → ℕ → ℕ → Type 0
+Sides most m n = (1 ≤ m) × (m ≤ most) × (1 ≤ n) × (n ≤ most)
+
+pub cells-passed : (most m n : ℕ) → cellsCheck most m n ≡ none → Sides most m n
+unfolding cellsCheck
+cells-passed most m n e =
+    let p = and-yes (within 1 most m) (within 1 most n) (required (within 1 most m && within 1 most n) cells e) in
+    let x = within-bounds 1 most m (p .0) in
+    let y = within-bounds 1 most n (p .1) in
+    (x .0, x .1, y .0, y .1)
+
+pub sides-pass : (most m n : ℕ) → Sides most m n → cellsCheck most m n ≡ none
+unfolding cellsCheck
+sides-pass most m n c =
+    require-met _ _ (yes-and (within 1 most m) (within 1 most n) (bounds-within 1 most m (c .0, c .1)) (bounds-within 1 most n (c .2, c .3)))
+
+-- 16 coarsest cells become 512 in 5 levels
+pub cellsAt-most : (m0 k : ℕ) → m0 ≤ 16 → k ≤ 5 → cellsAt m0 k ≤ 512
+unfolding cellsAt
+cellsAt-most m0 k m l = mul-le-mul m (pow-mono l)
+
+pub cellsAt-some : (m0 k : ℕ) → 1 ≤ m0 → 1 ≤ cellsAt m0 k
+unfolding cellsAt
+cellsAt-some m0 k m = mul-pos m (one-le-pow k 2 (omega arith))
+
+pub level-sides : (m0 n0 k : ℕ) → Sides 16 m0 n0 → k ≤ 5 → Sides 512 (cellsAt m0 k) (cellsAt n0 k)
+level-sides m0 n0 k c l = (cellsAt-some m0 k (c .0), cellsAt-most m0 k (c .1) l, cellsAt-some n0 k (c .2), cellsAt-most n0 k (c .3) l)
+
+-- ---- a lattice
+
+pub lattice-passed : (m n : ℕ) (values : List ℤ) → latticeCheck m n values ≡ none → AllInRange (controls m n) values
+unfolding latticeCheck
+lattice-passed m n values e = rangeCheck-size (controls m n) values range e
+
+-- ---- a survey
+
+pub record Surveyed (a : Shape) (s : Survey) : Type 0 where
+  pub sides : Sides 16 (a .m0) (a .n0)
+  pub levels-most : a .h ≤ 5
+  pub as-many-y : length (s .ys) ≡ pointCount s
+  pub as-many-z : length (s .zs) ≡ pointCount s
+  pub points-most : pointCount s ≤ 65_535
+
+pub survey-passed : (a : Shape) (s : Survey) → surveyCheck a s ≡ none → Surveyed a s
+unfolding surveyCheck hCheck listsCheck
+survey-passed a s e =
+    let p = pointCount s in
+    let past-cells = then-rest _ _ e in
+    let y = eqb p (length (s .ys)) in
+    let z = eqb p (length (s .zs)) in
+    let all = and-yes (y && z) (leb p 65_535) (required _ lists (then-rest _ _ past-cells)) in
+    let as-many = and-yes y z (all .0) in
+    record {
+      sides = cells-passed 16 (a .m0) (a .n0) (then-first _ _ e);
+      levels-most = leb→le (a .h) 5 (required _ levels (then-first _ _ past-cells));
+      as-many-y = sym (eqb→eq p _ (as-many .0));
+      as-many-z = sym (eqb→eq p _ (as-many .1));
+      points-most = leb→le p 65_535 (all .1);
+    }
+
+pub surveyed-passes : (a : Shape) (s : Survey) → Surveyed a s → surveyCheck a s ≡ none
+unfolding surveyCheck hCheck listsCheck
+surveyed-passes a s w =
+    let p = pointCount s in
+    let y = eqb p (length (s .ys)) in
+    let z = eqb p (length (s .zs)) in
+    then-none _ _ (sides-pass 16 (a .m0) (a .n0) (w .sides))
+    ∙ then-none _ _ (require-met _ _ (le→leb (a .h) 5 (w .levels-most)))
+    ∙ require-met _ _ (yes-and (y && z) (leb p 65_535) (yes-and y z (equal (w .as-many-y)) (equal (w .as-many-z))) (le→leb p 65_535 (w .points-most)))
+  where
+    equal : {m n : ℕ} → m ≡ n → T (eqb n m)
+    equal {m} e = rw (← e) (eqb-refl m)
+
+-- a point on m by n cells of U positions, with a value in range
+pub record Placed (U m n : ℕ) (s : Survey) (i : ℕ) : Type 0 where
+  pub x-inside : pointAt s i .x ≤ U * m
+  pub y-inside : pointAt s i .y ≤ U * n
+  pub z-size : natAbs (pointAt s i .z) ≤ limit
+
+pub points-passed : (U m n : ℕ) (s : Survey) → pointsCheck U m n s ≡ none → (i : ℕ) → i < pointCount s → Placed U m n s i
+unfolding pointsCheck pointCheck inside
+points-passed U m n s e i l =
+    let here = firstOf-none (pointCount s) _ e i l in
+    let at = and-yes (inside U m (pointAt s i .x)) (inside U n (pointAt s i .y)) (required _ (position i) (then-first _ _ here)) in
+    record {
+      x-inside = leb→le _ (U * m) (at .0);
+      y-inside = leb→le _ (U * n) (at .1);
+      z-size = inRange-size _ (required _ (range i) (then-rest _ _ here));
+    }
+
+pub placed-pass : (U m n : ℕ) (s : Survey) → ((i : ℕ) → i < pointCount s → Placed U m n s i) → pointsCheck U m n s ≡ none
+unfolding pointsCheck pointCheck inside
+placed-pass U m n s all =
+    firstOf-all (pointCount s) _
+    (λ i l.
+    let p = pointAt s i in
+    let at = yes-and (leb (p .x) (U * m)) (leb (p .y) (U * n)) (le→leb _ _ (all i l .x-inside)) (le→leb _ _ (all i l .y-inside)) in
+    then-none _ _ (require-met _ _ at) ∙ require-met _ _ (size-inRange (p .z) (all i l .z-size)))
+
+-- ---- what the answer of a fit tells
+
+pub record FitAccepted (a : Shape) (s : Survey) (lent : Lent) (k : CellCounts) : Type 0 where
+  pub unrefused : fitCheck a s lent ≡ none
+  pub counts : finest a ≡ k
+  pub lattice-is : fitCall a s lent .slices .lattice ≡ over (singleLattice a s) (lent .lattice)
+
+pub fit-accepted : (a : Shape) (s : Survey) (lent : Lent) (k : CellCounts) → fitCall a s lent .answered ≡ accepted k → FitAccepted a s lent k
+unfolding fitCall fitEnd cleared results
+fit-accepted a s lent k = go (fitCheck a s lent) refl
+  where
+    apart : (r : Refusal) → refused r ≡ accepted k → ⊥
+    apart r e = let z : _≡_ {A = ℕ} 0 1 = cc in omega arith
+
+    go : (c : Check) → fitCheck a s lent ≡ c → fitEnd a s lent c .answered ≡ accepted k → FitAccepted a s lent k
+    go none u e = record { unrefused = u; counts = cc; lattice-is = rw u refl }
+    go (some r) u e = absurd (apart r e)
+
+pub fit-refused : (a : Shape) (s : Survey) (lent : Lent) (r : Refusal) → fitCall a s lent .answered ≡ refused r → fitCheck a s lent ≡ some r
+unfolding fitCall fitEnd
+fit-refused a s lent r = go (fitCheck a s lent)
+  where
+    go : (c : Check) → fitEnd a s lent c .answered ≡ refused r → c ≡ some r
+    go none e = cc
+    go (some q) e = cc
