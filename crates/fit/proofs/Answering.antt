@@ -96,7 +96,7 @@ module _ {a : Shape} {xs ys : List ℕ} {zs : List ℤ} {most F : ℕ} (whole : 
     pub run-accepted : {m n : ℕ} {l r : List ℤ} → found ≡ none → m ≡ cellsAt (a .m0) (a .h) → n ≡ cellsAt (a .n0) (a .h)
         → l ≡ over (area (a .h % 2 * most) most now) lattice → r ≡ over (area (3 * most) many now) residual
         → outcome (accepted (record { m = m; n = n })) (cleared a many (lent l r now sums)) ≡ fitEnd a s (lent lattice residual whole floats) (levelsCheck a s)
-    unfolding fitEnd results columns rows
+    unfolding fitEnd results singleLattice lastResiduals columns rows
     run-accepted {l = l} {r = r} e m-is n-is l-is r-is =
         let lattice-is : l ≡ over (singleLattice a s) lattice = l-is ∙ ap (λ v. over v lattice) (done .leaves e .lattice-is) in
         let residual-is : r ≡ over (lastResiduals a s) residual = r-is ∙ ap (λ v. over v residual) (done .leaves e .residuals-are) in

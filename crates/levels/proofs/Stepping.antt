@@ -11,7 +11,7 @@ use lib.ListN.{length}
 use Rattle.algebra.specs.Table.{Free, area, free-between, free-length, free-again}
 use Rattle.rules.specs.Answers.{Refusal, Check, _then_, firstOf}
 use Rattle.rules.specs.Grid.{cellsAt}
-use Rattle.rules.specs.Fit.{Shape, columns, rows, unitOf, Survey, pointCount, residuals, singleLattice, lastResiduals, levelCheck, levelsCheck, quotientCheck, residualCheck, sumCheck}
+use Rattle.rules.specs.Fit.{Shape, columns, rows, unitOf, Survey, pointCount, residuals, levelCheck, levelsCheck, quotientCheck, residualCheck, sumCheck}
 use Rattle.rules.specs.Calls.{K}
 use Rattle.rules.specs.Laws.Checks.{then-none, then-assoc, firstOf-at}
 use Rattle.fit_steps.specs.Steps.{surveyAt}
@@ -117,7 +117,7 @@ module _ {a : Shape} {s : Survey} {most k : ℕ} {whole₀ whole : List ℤ} {fl
     levels-refused {r} e = judged-refused (firstOf-at (a .h + 1) k (levelCheck a s) r (p .passed) (omega arith) (sym (j .is) ∙ e))
 
   pub levels-done : a .h < k → Levelled a s most none whole
-  unfolding levelsCheck singleLattice lastResiduals K
+  unfolding levelsCheck K
   levels-done h =
       let last : k ≡ a .h + 1 = omega (arith, p .within) in
       record {

@@ -11,7 +11,7 @@ use lib.ListN.{length}
 use Rattle.algebra.specs.Table.{area}
 use Rattle.rules.specs.Answers.{Check, _then_}
 use Rattle.rules.specs.Grid.{controls}
-use Rattle.rules.specs.Fit.{Shape, columns, rows, unitOf, Survey, pointCount, valued, residuals, level, running, singleLattice, lastResiduals, quotientCheck, residualCheck, sumCheck, levelCheck, levelsCheck}
+use Rattle.rules.specs.Fit.{Shape, columns, rows, unitOf, Survey, pointCount, valued, residuals, level, running, quotientCheck, residualCheck, sumCheck, levelCheck, levelsCheck}
 use Rattle.rules.specs.Calls.{K}
 use Rattle.rules.specs.Laws.Checks.{AllInRange}
 use Rattle.rules.specs.Laws.Passed.{Sides, Surveyed, Placed}
@@ -100,10 +100,10 @@ SecondHalf a s most k = Judged (sumCheck a s k) (RunningThere a s most k)
 abbrev pub WholeLevel : Shape → Survey → ℕ → ℕ → Check → List ℤ → Type 0
 WholeLevel a s most k = Judged (levelCheck a s k) (Before a s most (suc k))
 
--- the single lattice and the last residuals in their areas
+-- the last running lattice and the residuals after the last level, in their areas
 pub record Finished (a : Shape) (s : Survey) (most : ℕ) (whole : List ℤ) : Type 0 where
-  pub lattice-is : area (a .h % 2 * most) most whole ≡ singleLattice a s
-  pub residuals-are : area (3 * most) (pointCount s) whole ≡ lastResiduals a s
+  pub lattice-is : area (a .h % 2 * most) most whole ≡ running a s (a .h)
+  pub residuals-are : area (3 * most) (pointCount s) whole ≡ residuals a s (a .h + 1)
 
 abbrev pub Levelled : Shape → Survey → ℕ → Check → List ℤ → Type 0
 Levelled a s most = Judged (levelsCheck a s) (Finished a s most)
