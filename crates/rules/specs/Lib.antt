@@ -12,5 +12,4 @@ pub mod PointFile
 pub mod Program
 pub mod Answers
 pub mod Examples
-pub mod FitExamples
 pub mod Laws
