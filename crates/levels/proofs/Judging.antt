@@ -16,7 +16,7 @@ refused-not : {r : Refusal} → some r ≡ none → ⊥
 refused-not {r} e = let z : _≡_ {A = ℕ} 0 1 = cc in omega arith
 
 module _ {due : Check} {State : List ℤ → Type 0} {whole : List ℤ} where
-  -- a step that is judged-refused
+  -- a step that is refused
   pub judged-refused : {r : Refusal} → due ≡ some r → Judged due State (some r) whole
   judged-refused e = record { is = sym e; leaves = λ n. absurd (refused-not n) }
 

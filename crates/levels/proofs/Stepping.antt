@@ -65,7 +65,7 @@ module _ {a : Shape} {s : Survey} {most k : ℕ} {found : Check} {whole now : Li
 
 -- ---- the levels
 
--- before level k of a fit whose levels before it were not judged-refused
+-- before level k of a fit whose levels before it were not refused
 pub record Passing (a : Shape) (s : Survey) (most k : ℕ) (whole₀ whole : List ℤ) (floats₀ floats : List Float) : Type 0 where
   pub within : k ≤ a .h + 1
   pub before : Before a s most k whole

@@ -14,10 +14,11 @@ pub record Taken (a : Shape) (s : Survey) : Type 0 where
   pub up : rows a (a .h) ≤ 16
   pub few : pointCount s ≤ 500
 
+-- the lattice file of its fit, or the line of the refusal in a level
 unfoldable pub answerText : Shape → Survey → List ℕ
 answerText a s = written (levelsCheck a s) a s
 
--- the text stands at the start of the output, as long as was answerText; what lies past it is as before
+-- the text stands at the start of the output, and the answer is its length; what lies past it is as before
 pub record Wrote (text before : List ℕ) (answer : ℕ) (after : List ℕ) : Type 0 where
   pub long : answer ≡ length text
   pub is : after ≡ over text before
