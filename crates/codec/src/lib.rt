@@ -1,4 +1,4 @@
-// The bytes of numbers and values in a file: little-endian, signed values in two's complement. Nothing here knows of ranges.
+// The bytes of numbers, values and marks in a file: little-endian, signed values in two's complement. Nothing here knows of ranges.
 ghost use mathlib.Core.Path.{_≡_};
 ghost use Prim.Native.Nat.{_+_, _≤_, _<_, _^_};
 ghost use lib.ListN.{length};
@@ -8,6 +8,19 @@ ghost use Rattle.rules.specs.Bytes.{bytesOf, valueBytes, complement, uncompleme
 ghost use Rattle.answers.specs.Cause.{check};
 use answers::Refusal;
 use answers::Verdict;
+
+// The letters of the records' marks: "LH" (0x4C 0x48), "LR" (0x4C 0x52), "LE" (0x4C 0x45), "PH" (0x50 0x48) and "PT" (0x50 0x54).
+pub const L: u8 = 0x4C;
+
+pub const P: u8 = 0x50;
+
+pub const H: u8 = 0x48;
+
+pub const R: u8 = 0x52;
+
+pub const E: u8 = 0x45;
+
+pub const T: u8 = 0x54;
 
 // The number of two bytes.
 pub fn u16_at(file: &[u8], at: usize) -> u16

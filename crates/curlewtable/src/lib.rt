@@ -8,10 +8,10 @@ ghost use Rattle.rules.specs.PointFile as pointFile;
 ghost use Rattle.curlewtable.specs.Fields.{handed, inFields, cellsFields, heightFields, countFields, headerFields};
 use fit::LatticeFitted;
 use heights::Reading;
-use lattice_file::LatticeRead;
-use lattice_file::LatticeWritten;
-use point_file::PointsRead;
-use point_file::PointsWritten;
+use lattice_reader::LatticeRead;
+use lattice_writer::LatticeWritten;
+use point_reader::PointsRead;
+use point_writer::PointsWritten;
 use raster::Sampled;
 use refinement::Refined;
 
@@ -162,7 +162,7 @@ pub extern "C" fn curlew_raster(
 pub extern "C" fn curlew_read_lattice(file: &[u8], output: &mut [i64]) -> CellsAnswer
     ensures { λ r. ⌜ handed r (now (output .exit)) ≡ inFields cellsFields (latticeFile.readLatticeCall (now (file .entry)) (now (output .entry))) ⌝ }
 {
-    match lattice_file::read_lattice(file, output) {
+    match lattice_reader::read_lattice(file, output) {
         LatticeRead::Cells(m, n) => CellsAnswer {
             number: 0,
             place: 0,
@@ -187,7 +187,7 @@ pub extern "C" fn curlew_write_lattice(
 ) -> CountAnswer
     ensures { λ r. ⌜ handed r (now (output .exit)) ≡ inFields countFields (latticeFile.writeLatticeCall m n (now (lattice .entry)) (now (output .entry))) ⌝ }
 {
-    match lattice_file::write_lattice(m, n, lattice, output) {
+    match lattice_writer::write_lattice(m, n, lattice, output) {
         LatticeWritten::Bytes(b) => CountAnswer {
             number: 0,
             place: 0,
@@ -210,7 +210,7 @@ pub extern "C" fn curlew_read_points(
 ) -> HeaderAnswer
     ensures { λ r. ⌜ handed r (survey (now (x .exit)) (now (y .exit)) (now (z .exit))) ≡ inFields headerFields (pointFile.readPointsCall (now (file .entry)) (survey (now (x .entry)) (now (y .entry)) (now (z .entry)))) ⌝ }
 {
-    match point_file::read_points(file, x, y, z) {
+    match point_reader::read_points(file, x, y, z) {
         PointsRead::Header(a) => HeaderAnswer {
             number: 0,
             place: 0,
@@ -242,7 +242,7 @@ pub extern "C" fn curlew_write_points(
 ) -> CountAnswer
     ensures { λ r. ⌜ handed r (now (output .exit)) ≡ inFields countFields (pointFile.writePointsCall (shape m0 n0 h) (survey (now (x .entry)) (now (y .entry)) (now (z .entry))) (now (output .entry))) ⌝ }
 {
-    match point_file::write_points(m0, n0, h, x, y, z, output) {
+    match point_writer::write_points(m0, n0, h, x, y, z, output) {
         PointsWritten::Bytes(b) => CountAnswer {
             number: 0,
             place: 0,

@@ -145,6 +145,6 @@ pub fn fit(
         floats,
     );
     fit_steps::clear(3 * most + p, whole);
-    level_fit::clear(2 * most, floats);
+    level_sums::clear(2 * most, floats);
     answer
 }

@@ -58,9 +58,9 @@ pub fn refine_at(m: usize, n: usize, whole: &mut [i64], from: usize, to: usize)
     let mut start = to;
     let mut t = 0;
     while t < 2 * n + 3 {
-        refinement::blend(m, &whole[from..end], t, &mut sums);
+        refined_rows::blend(m, &whole[from..end], t, &mut sums);
         let stop = start + width;
-        refinement::refine_row(m, &sums, &mut whole[start..stop]);
+        refined_rows::refine_row(m, &sums, &mut whole[start..stop]);
         start = stop;
         t += 1;
     }

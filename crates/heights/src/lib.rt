@@ -1,98 +1,19 @@
 // Heights of a control lattice, read in two steps as document 01 has them.
-// U is a power of two, 2^e, so that cells are found by a shift.
 ghost use mathlib.Core.Path.{_≡_};
-ghost use Prim.Native.Nat.{_+_, _*_, _^_, _≤_, _<_};
-ghost use lib.IntN.{pos, natAbs};
-ghost use lib.ListN.{getD};
-ghost use Rattle.rules.specs.Rounding as rounding;
+ghost use Prim.Native.Nat.{_^_};
 ghost use Rattle.rules.specs.Grid.{control};
 ghost use Rattle.rules.specs.Surface as rule;
 ghost use Rattle.rules.specs.Calls.{heightCheck, heightAnswer};
 ghost use Rattle.checks.specs.Found.{Tells};
-ghost use Rattle.heights.specs.Reading.{Weighs, Located, numerators, four, weightSize, Weighable, Readable, told};
+ghost use Rattle.basis.specs.Weighing.{Readable};
+ghost use Rattle.heights.specs.Reading.{told};
 use answers::Refusal;
 use answers::Verdict;
 use checks::Readiness;
 
-// The four numerators of a position in its cell.
-pub struct Basis {
-    pub b0: i64,
-    pub b1: i64,
-    pub b2: i64,
-    pub b3: i64,
-}
-
-// A position's cell, and its offset in the cell.
-pub struct Spot {
-    pub cell: usize,
-    pub offset: usize,
-}
-
 pub enum Reading {
     Height(i64),
     Refused(Refusal),
-}
-
-fn cube(v: i64) -> i64
-    requires { ⌜ natAbs v ≤ 1024 ⌝ }
-    ensures { λ r. ⌜ r ≡ rule.cube v ⌝ }
-{
-    v * v * v
-}
-
-// "(U-a)³, 3a³-6a²U+4U³, -3a³+3a²U+3aU²+U³, a³"; the third is what the others leave of 6U³
-pub fn basis_of(unit: usize, a: usize) -> Basis
-    requires { ⌜ (unit ≤ 512) × (a ≤ unit) ⌝ }
-    ensures { λ r. ⌜ Weighs r unit a ⌝ }
-{
-    let u = unit as i64;
-    let t = a as i64;
-    let uuu = cube(u);
-    let b0 = cube(u - t);
-    let b3 = cube(t);
-    let b1 = 3 * b3 - 6 * t * t * u + 4 * uuu;
-    let b2 = 6 * uuu - b0 - b1 - b3;
-    Basis { b0, b1, b2, b3 }
-}
-
-// The sum of four numerators times four values in range.
-pub fn weighed(b: Basis, p0: i64, p1: i64, p2: i64, p3: i64) -> i64
-    requires { ⌜ weightSize b ≤ 805_306_368 ⌝ }
-    requires { ⌜ (natAbs p0 ≤ 4_000_000_000) × (natAbs p1 ≤ 4_000_000_000) × (natAbs p2 ≤ 4_000_000_000) × (natAbs p3 ≤ 4_000_000_000) ⌝ }
-    ensures { λ r. ⌜ (r ≡ rule.weighted (numerators b) (four p0 p1 p2 p3) 0) × (natAbs r ≤ 3_221_225_472_000_000_000) ⌝ }
-{
-    b.b0 * p0 + b.b1 * p1 + b.b2 * p2 + b.b3 * p3
-}
-
-// "A position x lies in cell floor(x/U); the far edge belongs to the last cell with a = U"
-pub fn locate(x: usize, m: usize, e: u32) -> Spot
-    requires { ⌜ (0 < m) × (e ≤ 9) ⌝ }
-    ensures { λ r. ⌜ Located r (2 ^ e) m x ⌝ }
-{
-    let c = x >> e;
-    let last = m - 1;
-    let cell = if c < last { c } else { last };
-    Spot {
-        cell,
-        offset: x - (cell << e),
-    }
-}
-
-// One step of a height: near of the sum of the four control values from place q on, over 6U³.
-pub fn row_height(lattice: &[i64], q: usize, b: Basis, e: u32) -> i64
-    requires { ⌜ Weighable (now lattice) q b e ⌝ }
-    ensures { λ r. ⌜ r ≡ rounding.near (rule.weighted (numerators b) (λ s. getD (now (lattice .entry)) s (pos 0)) q) (rule.denominator (2 ^ e)) ⌝ }
-{
-    roundings::near_over(
-        weighed(
-            b,
-            lattice[q],
-            lattice[q + 1],
-            lattice[q + 2],
-            lattice[q + 3],
-        ),
-        e,
-    )
 }
 
 // The height at a position of a lattice that is known to be long enough and in range. It scans nothing.
@@ -100,21 +21,21 @@ pub fn height_within(m: usize, n: usize, e: u32, lattice: &[i64], x: usize, y: u
     requires { ⌜ Readable m n e (now lattice) x y ⌝ }
     ensures { λ r. ⌜ r ≡ rule.height (2 ^ e) m n (control m (now (lattice .entry))) x y ⌝ }
 {
-    let across = locate(x, m, e);
-    let up = locate(y, n, e);
+    let across = basis::locate(x, m, e);
+    let up = basis::locate(y, n, e);
     let unit = 1 << e;
-    let bx = basis_of(unit, across.offset);
-    let by = basis_of(unit, up.offset);
+    let bx = basis::basis_of(unit, across.offset);
+    let by = basis::basis_of(unit, up.offset);
     let w = m + 3;
     let q0 = up.cell * w + across.cell;
     let q1 = q0 + w;
     let q2 = q1 + w;
     let q3 = q2 + w;
-    let r0 = row_height(lattice, q0, bx, e);
-    let r1 = row_height(lattice, q1, bx, e);
-    let r2 = row_height(lattice, q2, bx, e);
-    let r3 = row_height(lattice, q3, bx, e);
-    roundings::near_over(weighed(by, r0, r1, r2, r3), e)
+    let r0 = basis::row_height(lattice, q0, bx, e);
+    let r1 = basis::row_height(lattice, q1, bx, e);
+    let r2 = basis::row_height(lattice, q2, bx, e);
+    let r3 = basis::row_height(lattice, q3, bx, e);
+    roundings::near_over(basis::weighed(by, r0, r1, r2, r3), e)
 }
 
 // The checks of a height in document 01's order: 1, 2, 4, 6 and 5.

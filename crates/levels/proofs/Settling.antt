@@ -17,8 +17,10 @@ use Rattle.rules.specs.Laws.Checks.{rangeCheck-size}
 use Rattle.rules.specs.Laws.Fit.{length-level, length-residuals}
 use Rattle.answers.specs.Cause.{okCheck}
 use Rattle.checks.specs.Passed.{Gridded}
-use Rattle.level_fit.specs.Sums.{sumTable, settledAt, SettledAll, Fittable}
-use Rattle.level_fit.specs.Level.{length-sums, values-table, refused-table}
+use Rattle.level_sums.specs.Sums.{sumTable, Fittable}
+use Rattle.level_sums.specs.Pairs.{length-sums}
+use Rattle.level_values.specs.Values.{settledAt, SettledAll}
+use Rattle.level_values.specs.Level.{values-table, refused-table}
 use Rattle.fit_steps.specs.Steps.{surveyAt, lessHeights, Lowerable, Written}
 use Rattle.levels.specs.Scratch.{area-within, RunningThere, ResidualsThere, LevelReady, Halfway, Judged, places}
 use Rattle.levels.proofs.Sizes.{count-is, few}

@@ -44,8 +44,8 @@ fn settle_level(
     let level_end = level + count;
     let residuals = 3 * most;
     let end = residuals + xs.len();
-    level_fit::gather(m, n, e, xs, ys, &whole[residuals..end], floats);
-    if !level_fit::settle_all(count, floats, &mut whole[level..level_end]) {
+    level_sums::gather(m, n, e, xs, ys, &whole[residuals..end], floats);
+    if !level_values::settle_all(count, floats, &mut whole[level..level_end]) {
         return Verdict::Refused(Refusal::Quotient(k));
     }
     if !fit_steps::lower(m, n, e, xs, ys, whole, level, residuals) {

@@ -1,6 +1,1 @@
--- What the proofs of several functions share.
-pub mod Columns
-pub mod Ring
-pub mod Row
-pub mod Stripes
 pub mod Within

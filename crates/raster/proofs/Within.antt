@@ -10,11 +10,11 @@ use Rattle.algebra.specs.Table.{tabulate, over, over-none}
 use Rattle.rules.specs.Grid.{control}
 use Rattle.rules.specs.Surface.{height}
 use Rattle.rules.specs.Calls.{nodes, stepOf, nodeX, nodeY}
-use Rattle.heights.specs.Sums.{on-grid, unit-shifted}
+use Rattle.basis.specs.Sums.{on-grid, unit-shifted}
 use Rattle.raster.specs.Sampled.{Samplable, nodeHeight}
-use Rattle.raster.specs.Strips.{StripInside, Room, Striped}
-use Rattle.raster.specs.declared.Strip.{Strip}
-use Rattle.raster.proofs.Stripes.{all-striped}
+use Rattle.strips.specs.Strips.{StripInside, Room, Striped}
+use Rattle.strips.specs.declared.Strip.{Strip}
+use Rattle.strips.specs.Stripes.{all-striped}
 
 -- the height at row j and column c
 abbrev pub gridHeight : ℕ → ℕ → ℕ → List ℤ → ℕ → ℕ → ℕ → ℕ → ℕ → ℤ

@@ -1,3 +1,2 @@
 pub mod Sampled
-pub mod Strips
 pub mod Promises

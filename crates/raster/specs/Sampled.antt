@@ -7,7 +7,7 @@ use Rattle.rules.specs.Grid.{control}
 use Rattle.rules.specs.Surface.{height}
 use Rattle.rules.specs.Calls as calls
 use Rattle.answers.specs.Cause.{cause}
-use Rattle.heights.specs.Reading.{Grounded}
+use Rattle.basis.specs.Weighing.{Grounded}
 use Rattle.nodes.specs.Inside.{NodesInside}
 use Rattle.raster.specs.declared.Sampled.{Sampled}
 use Rattle.raster.specs.declared.Sampled.the-variants.{Nodes, Refused}

@@ -1,3 +1,2 @@
 pub mod Refined
-pub mod Rows
 pub mod Promises

@@ -20,7 +20,8 @@ use Rattle.rules.specs.Laws.Checks.{then-none}
 use Rattle.rules.specs.Laws.Passed.{surveyed-passes, placed-pass, FitAccepted, fit-accepted, fit-refused}
 use Rattle.rules.specs.Laws.Fit.{length-running}
 use Rattle.rules.specs.Laws.Surface.{Same, control-over}
-use Rattle.respond.specs.Taken.{Taken, answerText, Wrote}
+use Rattle.refused_line.specs.Wrote.{Wrote}
+use Rattle.respond.specs.Taken.{Taken, answerText}
 
 -- what is written is the answer
 pub written-as : {x y d o : List ℕ} {n : ℕ} → x ≡ y → Wrote x d n o → Wrote y d n o

@@ -1,9 +1,6 @@
 -- What the program fits, a survey in bounds that its arrays can hold, and what it then writes.
 use Prim.Native.Nat.{ℕ, _≤_}
-use mathlib.Core.Path.{_≡_}
 use mathlib.Core.List.{List}
-use lib.ListN.{length}
-use Rattle.algebra.specs.Table.{over}
 use Rattle.rules.specs.Fit.{Shape, columns, rows, Survey, pointCount, levelsCheck}
 use Rattle.rules.specs.Program.{written}
 use Rattle.rules.specs.Laws.PointFile.{Writable}
@@ -17,8 +14,3 @@ pub record Taken (a : Shape) (s : Survey) : Type 0 where
 -- the lattice file of its fit, or the line of the refusal in a level
 unfoldable pub answerText : Shape → Survey → List ℕ
 answerText a s = written (levelsCheck a s) a s
-
--- the text stands at the start of the output, and the answer is its length; what lies past it is as before
-pub record Wrote (text before : List ℕ) (answer : ℕ) (after : List ℕ) : Type 0 where
-  pub long : answer ≡ length text
-  pub is : after ≡ over text before

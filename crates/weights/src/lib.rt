@@ -19,7 +19,7 @@ pub fn axis(e: u32, a: usize) -> [f64; 4]
     requires { ⌜ (e ≤ 9) × (a ≤ 2 ^ e) ⌝ }
     ensures { λ r. ⌜ r ≡ tabulate 4 (rule.basis (2 ^ e) a) ⌝ }
 {
-    let b = heights::basis_of(1 << e, a);
+    let b = basis::basis_of(1 << e, a);
     let d = exact(6 << (3 * e));
     [
         exact(b.b0) / d,

@@ -1,6 +1,6 @@
--- `curlewtable::curlew_read_lattice` meets its contract: what it hands out is the answer of `lattice_file::read_lattice`.
+-- `curlewtable::curlew_read_lattice` meets its contract: what it hands out is the answer of `lattice_reader::read_lattice`.
 use borrow.Author.Needs.{needs}
-use Rattle.lattice_file.specs.Told.{readTold}
+use Rattle.lattice_reader.specs.Read.{told}
 use Rattle.curlewtable.specs.Fields.{cellsFields}
 use Rattle.curlewtable.proofs.Handed.{call-handed}
 use Rattle.curlewtable.proofs.curlew_read_lattice.Statement.{statement}
@@ -27,7 +27,7 @@ same-length c = search needs
 returns : tie.Need-returns
 returns c =
     let call = c .before .before .before .before in
-    call-handed readTold cellsFields (call .read-lattice .ensures) (c .before .m .given .1)
+    call-handed told cellsFields (call .read-lattice .ensures) (c .before .m .given .1)
 
 same-length-2 : tie.Need-same-length-2
 same-length-2 c = search needs
@@ -35,7 +35,7 @@ same-length-2 c = search needs
 returns-2 : tie.Need-returns-2
 returns-2 c =
     let call = c .before .before .before .before .before .before in
-    rw (c .before .number .ensures, c .place .ensures) (call-handed readTold cellsFields (call .read-lattice .ensures) (c .before .before .before .r .given .1))
+    rw (c .before .number .ensures, c .place .ensures) (call-handed told cellsFields (call .read-lattice .ensures) (c .before .before .before .r .given .1))
 
 pub curlew-read-lattice-spec : {M : Type 1} → statement M
 curlew-read-lattice-spec =

@@ -1,6 +1,6 @@
--- `curlewtable::curlew_read_points` meets its contract: what it hands out is the answer of `point_file::read_points`.
+-- `curlewtable::curlew_read_points` meets its contract: what it hands out is the answer of `point_reader::read_points`.
 use borrow.Author.Needs.{needs}
-use Rattle.point_file.specs.Told.{readTold}
+use Rattle.point_reader.specs.Read.{told}
 use Rattle.curlewtable.specs.Fields.{headerFields}
 use Rattle.curlewtable.proofs.Handed.{call-handed}
 use Rattle.curlewtable.proofs.curlew_read_points.Statement.{statement}
@@ -33,7 +33,7 @@ same-length-3 c = search needs
 returns : tie.Need-returns
 returns c =
     let call = c .before .before .before .before .before .before .before .before in
-    call-handed readTold headerFields (call .read-points .ensures) (c .before .a .given .1)
+    call-handed told headerFields (call .read-points .ensures) (c .before .a .given .1)
 
 same-length-4 : tie.Need-same-length-4
 same-length-4 c = search needs
@@ -47,7 +47,7 @@ same-length-6 c = search needs
 returns-2 : tie.Need-returns-2
 returns-2 c =
     let call = c .before .before .before .before .before .before .before .before .before .before in
-    rw (c .before .number .ensures, c .place .ensures) (call-handed readTold headerFields (call .read-points .ensures) (c .before .before .before .r .given .1))
+    rw (c .before .number .ensures, c .place .ensures) (call-handed told headerFields (call .read-points .ensures) (c .before .before .before .r .given .1))
 
 pub curlew-read-points-spec : {M : Type 1} → statement M
 curlew-read-points-spec =

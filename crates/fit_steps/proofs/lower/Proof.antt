@@ -13,7 +13,7 @@ use Rattle.machine.specs.Held.{Number, number, read, minus, fits}
 use Rattle.rules.specs.Grid.{limit, controls, control}
 use Rattle.rules.specs.Surface.{height}
 use Rattle.rules.specs.Laws.Surface.{control-within, height-within}
-use Rattle.heights.specs.Reading.{Readable}
+use Rattle.basis.specs.Weighing.{Readable}
 use Rattle.algebra.specs.Partly.{part-kept}
 use Rattle.fit_steps.specs.Steps.{surveyAt, lessHeight, lessHeights}
 use Rattle.fit_steps.proofs.Entries.{entry-held}

@@ -7,7 +7,7 @@ use lib.IntN.{ℤ}
 use lib.ListN.{length, take, drop}
 use Rattle.algebra.specs.Table.{over, tabulate, area, length-area}
 use Rattle.rules.specs.Grid.{controls}
-use Rattle.refinement.specs.Rows.{down, RowsDone, no-row, every-row, apart-kept, row-read, row-room, part-room, row-sums, next-row}
+use Rattle.refined_rows.specs.Rows.{down, RowsDone, no-row, every-row, apart-kept, row-read, row-room, part-room, row-sums, next-row}
 use Rattle.fit_steps.proofs.refine_at.Statement.{statement}
 use Rattle.fit_steps.proofs.refine_at.Tie as tie
 

@@ -9,9 +9,9 @@ use lib.ListN.{getD}
 use Rattle.rules.specs.Rounding.{near}
 use Rattle.rules.specs.Grid.{controls}
 use Rattle.rules.specs.Surface.{denominator, weighted}
-use Rattle.heights.specs.Reading.{numerators, Weighable}
-use Rattle.heights.specs.Sums.{Based, unit-shifted, basis-asked, placed, placed-below, weight-most, four-small, step-is, rowHeight, on-x, on-y, row-asked, row-within, last-place, row-is, height-is}
-use Rattle.heights.specs.declared.Basis.{Basis}
+use Rattle.basis.specs.Weighing.{numerators, Weighable}
+use Rattle.basis.specs.Sums.{Based, unit-shifted, basis-asked, placed, placed-below, weight-most, four-small, step-is, rowHeight, on-x, on-y, row-asked, row-within, last-place, row-is, height-is}
+use Rattle.basis.specs.declared.Basis.{Basis}
 use Rattle.heights.proofs.height_within.Statement.{statement}
 use Rattle.heights.proofs.height_within.Tie as tie
 

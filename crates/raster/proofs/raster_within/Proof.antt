@@ -4,8 +4,8 @@ use Prim.Native.Nat.{_-_, _≤_}
 use native.Mathlib.Nat.{not-suc-le-zero}
 use native.Mathlib.Omega.{arith}
 use borrow.Author.Needs.{needs}
-use Rattle.raster.specs.Strips.{Striped}
-use Rattle.raster.proofs.Stripes.{unchanged, strip-more}
+use Rattle.strips.specs.Strips.{Striped}
+use Rattle.strips.specs.Stripes.{unchanged, strip-more}
 use Rattle.raster.proofs.Within.{gridHeight, strip-inside, strip-room, all-nodes, no-nodes}
 use Rattle.raster.proofs.raster_within.Statement.{statement}
 use Rattle.raster.proofs.raster_within.Tie as tie

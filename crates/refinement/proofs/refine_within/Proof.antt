@@ -4,7 +4,7 @@ use Prim.Native.Nat.{_+_, _-_, _*_, _≤_}
 use native.Mathlib.Omega.{arith}
 use lib.ListN.{length}
 use Rattle.algebra.specs.Table.{laid-front}
-use Rattle.refinement.specs.Rows.{RowsDone, no-row, every-row, row-read, row-room, part-room, row-sums, next-row}
+use Rattle.refined_rows.specs.Rows.{RowsDone, no-row, every-row, row-read, row-room, part-room, row-sums, next-row}
 use Rattle.refinement.proofs.refine_within.Statement.{statement}
 use Rattle.refinement.proofs.refine_within.Tie as tie
 

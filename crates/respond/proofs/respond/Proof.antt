@@ -6,7 +6,7 @@ use native.Mathlib.Omega.{arith}
 use borrow.Author.Needs.{needs}
 use lib.ListN.{length, drop, length-append}
 use Rattle.algebra.specs.Table.{over}
-use Rattle.respond.specs.Taken.{Wrote}
+use Rattle.refused_line.specs.Wrote.{Wrote}
 use Rattle.respond.proofs.respond.Statement.{statement}
 use Rattle.respond.proofs.respond.Tie as tie
 

@@ -4,7 +4,7 @@ use native.Mathlib.Omega.{arith}
 use borrow.Author.Needs.{needs}
 use lib.Seq.{length-take-le}
 use Rattle.rules.specs.Fit.{shape, Survey, survey}
-use Rattle.point_file.specs.Told.{readTold}
+use Rattle.point_reader.specs.Read.{told}
 use Rattle.respond.proofs.Fitting.{written-as}
 use Rattle.respond.proofs.Reading.{too-long, refusal, ReadAs, read-as, points-fit, levels-most, too-wide, too-high, answer-is, taken}
 use Rattle.respond.proofs.write.Statement.{statement}
@@ -56,7 +56,7 @@ read c =
     let zs = reader .before in
     let start = zs .before .before .before in
     read-as _ (start .if1 .left) _ (slice-aggregate-read-points (zs .before .before)) (slice-aggregate-read-points-2 (zs .before)) (slice-aggregate-read-points-3 zs)
-    (reader .read-points .ensures) _ (ap readTold (c .a .given .1)) (λ i. start .before .before .shared-slice-known .given i .fits)
+    (reader .read-points .ensures) _ (ap told (c .a .given .1)) (λ i. start .before .before .shared-slice-known .given i .fits)
 
 shl-if2 : tie.Need-shl-if2
 shl-if2 c = omega (arith, levels-most (read (c .before)))
@@ -127,13 +127,13 @@ same-length-4 c = search needs
 returns-4 : tie.Need-returns-4
 returns-4 c =
     let put = c .before .before in
-    let told = put .before .before .before in
-    let reader = told .before .before .before .before .before in
+    let matched = put .before .before .before in
+    let reader = matched .before .before .before .before .before in
     let zs = reader .before in
     let start = zs .before .before .before in
     written-as
     (refusal _ (start .if1 .left) _ (slice-aggregate-read-points (zs .before .before)) (slice-aggregate-read-points-2 (zs .before)) (slice-aggregate-read-points-3 zs)
-    (reader .read-points .ensures) _ (ap readTold (told .r .given .1)))
+    (reader .read-points .ensures) _ (ap told (matched .r .given .1)))
     (put .put-refused2 .ensures)
 
 same-length-5 : tie.Need-same-length-5

@@ -16,7 +16,7 @@ use Rattle.rules.specs.Level as rule
 use Rattle.rules.specs.Level.{_⊘_}
 use Rattle.rules.specs.Surface.{numerator, denominator}
 use Rattle.rules.specs.Laws.Basis.{weights, numerator-weights, weights-sum}
-use Rattle.heights.specs.Reading.{Weighs}
+use Rattle.basis.specs.Weighing.{Weighs}
 use Rattle.weights.proofs.axis.Statement.{statement}
 use Rattle.weights.proofs.axis.Tie as tie
 

@@ -1,0 +1,150 @@
+// The lattice file's reader: it accepts exactly the files of lattices in bounds.
+ghost use mathlib.Core.Path.{_≡_};
+ghost use Prim.Native.Nat.{_+_, _*_, _≤_};
+ghost use lib.ListN.{length};
+ghost use Rattle.algebra.specs.Table.{over};
+ghost use Rattle.rules.specs.Grid.{controls};
+ghost use Rattle.rules.specs.Answers.{firstOf, outcome};
+ghost use Rattle.rules.specs.LatticeFile as rule;
+ghost use Rattle.answers.specs.Cause.{check};
+ghost use Rattle.lattice_reader.specs.Read.{told, valueCheck, valuesFrom, latticeFrom};
+use answers::Refusal;
+use answers::Verdict;
+use codec::E;
+use codec::H;
+use codec::L;
+use codec::R;
+
+pub enum LatticeRead {
+    Cells(usize, usize),
+    Refused(Refusal),
+}
+
+// "LH" with m and n
+fn head(file: &[u8]) -> Verdict
+    ensures { λ r. ⌜ check r ≡ rule.latticeHeadCheck (now (file .entry)) ⌝ }
+{
+    if let Verdict::Refused(r) = codec::record(file, 0, 6, L, H) {
+        return Verdict::Refused(r);
+    }
+    if !checks::within(1, 512, codec::u16_at(file, 2) as usize) {
+        return Verdict::Refused(Refusal::Field(2));
+    }
+    if !checks::within(1, 512, codec::u16_at(file, 4) as usize) {
+        return Verdict::Refused(Refusal::Field(4));
+    }
+    Verdict::Fine
+}
+
+// The first of the m + 3 values from byte s on that is out of range.
+fn values(file: &[u8], m: usize, s: usize) -> Verdict
+    requires { ⌜ (m ≤ 512) × (s + 8 * (m + 3) ≤ length (now file)) ⌝ }
+    ensures { λ v. ⌜ check v ≡ firstOf (m + 3) (valueCheck (now (file .entry)) s) ⌝ }
+{
+    let mut c = 0;
+    while c < m + 3 {
+        let at = s + 8 * c;
+        let z = codec::value_at(file, at);
+        if !checks::in_range(z) {
+            return Verdict::Refused(Refusal::Field(at));
+        }
+        c += 1;
+    }
+    Verdict::Fine
+}
+
+// "LR" with its row number and its values
+fn row(file: &[u8], m: usize, r: usize) -> Verdict
+    requires { ⌜ (m ≤ 512) × (r ≤ 514) ⌝ }
+    ensures { λ v. ⌜ check v ≡ rule.rowCheck m (now (file .entry)) r ⌝ }
+{
+    let s = lattice_layout::row_start(m, r);
+    if let Verdict::Refused(v) = codec::record(file, s, 4 + 8 * (m + 3), L, R) {
+        return Verdict::Refused(v);
+    }
+    if codec::u16_at(file, s + 2) as usize != r {
+        return Verdict::Refused(Refusal::Field(s + 2));
+    }
+    values(file, m, s + 4)
+}
+
+// All n + 3 rows.
+fn rows(file: &[u8], m: usize, n: usize) -> Verdict
+    requires { ⌜ (m ≤ 512) × (n ≤ 512) ⌝ }
+    ensures { λ v. ⌜ check v ≡ firstOf (n + 3) (rule.rowCheck m (now (file .entry))) ⌝ }
+{
+    let mut r = 0;
+    while r < n + 3 {
+        if let Verdict::Refused(v) = row(file, m, r) {
+            return Verdict::Refused(v);
+        }
+        r += 1;
+    }
+    Verdict::Fine
+}
+
+// "LE" with its count, and nothing after it
+fn end(file: &[u8], m: usize, n: usize) -> Verdict
+    requires { ⌜ (m ≤ 512) × (n ≤ 512) ⌝ }
+    ensures { λ v. ⌜ check v ≡ rule.endCheck m n (now (file .entry)) ⌝ }
+{
+    let s = lattice_layout::row_start(m, n + 3);
+    if let Verdict::Refused(v) = codec::record(file, s, 4, L, E) {
+        return Verdict::Refused(v);
+    }
+    if codec::u16_at(file, s + 2) as usize != n + 3 {
+        return Verdict::Refused(Refusal::Field(s + 2));
+    }
+    if file.len() != s + 4 {
+        return Verdict::Refused(Refusal::Trailing(s + 4));
+    }
+    Verdict::Fine
+}
+
+// One row of values, from byte s on.
+fn copy_row(file: &[u8], s: usize, row: &mut [i64])
+    requires { ⌜ s + 8 * length (now row) ≤ length (now file) ⌝ }
+    ensures { λ _. ⌜ now (row .exit) ≡ over (valuesFrom (now (file .entry)) s (length (now (row .entry)))) (now (row .entry)) ⌝ }
+{
+    let mut c = 0;
+    while c < row.len() {
+        row[c] = codec::value_at(file, s + 8 * c);
+        c += 1;
+    }
+}
+
+// The control values of a file that has been accepted.
+fn copy(file: &[u8], m: usize, n: usize, output: &mut [i64])
+    requires { ⌜ (m ≤ 512) × (n ≤ 512) × (rule.rowStart m (n + 3) ≤ length (now file)) × (controls m n ≤ length (now output)) ⌝ }
+    ensures { λ _. ⌜ now (output .exit) ≡ over (latticeFrom m n (now (file .entry))) (now (output .entry)) ⌝ }
+{
+    let mut r = 0;
+    while r < n + 3 {
+        let from = r * (m + 3);
+        let to = from + (m + 3);
+        copy_row(file, lattice_layout::row_start(m, r) + 4, &mut output[from..to]);
+        r += 1;
+    }
+}
+
+// The whole file is judged before a value is written.
+pub fn read_lattice(file: &[u8], output: &mut [i64]) -> LatticeRead
+    ensures { λ r. ⌜ outcome (told r) (now (output .exit)) ≡ rule.readLatticeCall (now (file .entry)) (now (output .entry)) ⌝ }
+{
+    if let Verdict::Refused(v) = head(file) {
+        return LatticeRead::Refused(v);
+    }
+    let m = codec::u16_at(file, 2) as usize;
+    let n = codec::u16_at(file, 4) as usize;
+    if let Verdict::Refused(v) = rows(file, m, n) {
+        return LatticeRead::Refused(v);
+    }
+    if let Verdict::Refused(v) = end(file, m, n) {
+        return LatticeRead::Refused(v);
+    }
+    if output.len() < lattice_layout::count(m, n) {
+        return LatticeRead::Refused(Refusal::Short);
+    }
+    copy(file, m, n, output);
+    LatticeRead::Cells(m, n)
+}

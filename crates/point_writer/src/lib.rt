@@ -1,0 +1,82 @@
+// The point file's writer.
+ghost use mathlib.Core.Path.{_≡_};
+ghost use Prim.Native.Nat.{_+_, _*_, _≤_, _<_};
+ghost use lib.ListN.{length};
+ghost use Rattle.algebra.specs.Table.{over, joined, laid};
+ghost use Rattle.rules.specs.Answers.{outcome};
+ghost use Rattle.rules.specs.Fit.{shape, survey};
+ghost use Rattle.rules.specs.PointFile as rule;
+ghost use Rattle.rules.specs.Laws.PointFile.{recordOf};
+ghost use Rattle.point_writer.specs.Written.{told, headBytes};
+use answers::Refusal;
+use answers::Verdict;
+use codec::H;
+use codec::P;
+use codec::T;
+
+pub enum PointsWritten {
+    Bytes(usize),
+    Refused(Refusal),
+}
+
+// The file's head.
+fn put_head(m0: usize, n0: usize, h: usize, p: usize, output: &mut [u8])
+    requires { ⌜ (m0 < 256) × (n0 < 256) × (h < 256) × (p < 65_536) × (8 ≤ length (now output)) ⌝ }
+    ensures { λ _. ⌜ now (output .exit) ≡ over (headBytes m0 n0 h p) (now (output .entry)) ⌝ }
+{
+    codec::put_mark(output, 0, P, H);
+    output[2] = m0 as u8;
+    output[3] = n0 as u8;
+    output[4] = h as u8;
+    output[5] = 0;
+    codec::put_u16(output, 6, p as u16);
+}
+
+// One point record.
+fn put_point(x: u16, y: u16, z: i64, s: usize, output: &mut [u8])
+    requires { ⌜ s + 14 ≤ length (now output) ⌝ }
+    ensures { λ _. ⌜ now (output .exit) ≡ laid s (rule.pointRecord (record { x = x; y = y; z = z })) (now (output .entry)) ⌝ }
+{
+    codec::put_mark(output, s, P, T);
+    codec::put_u16(output, s + 2, x);
+    codec::put_u16(output, s + 4, y);
+    codec::put_value(output, s + 6, z);
+}
+
+// All point records.
+fn put_points(xs: &[u16], ys: &[u16], zs: &[i64], output: &mut [u8])
+    requires { ⌜ (length (now ys) ≡ length (now xs)) × (length (now zs) ≡ length (now xs)) × (8 + 14 * length (now xs) ≤ length (now output)) ⌝ }
+    ensures { λ _. ⌜ now (output .exit) ≡ laid 8 (joined (length (now (xs .entry))) (recordOf (survey (now (xs .entry)) (now (ys .entry)) (now (zs .entry))))) (now (output .entry)) ⌝ }
+{
+    let mut i = 0;
+    while i < xs.len() {
+        put_point(xs[i], ys[i], zs[i], 8 + 14 * i, output);
+        i += 1;
+    }
+}
+
+pub fn write_points(
+    m0: usize,
+    n0: usize,
+    h: usize,
+    xs: &[u16],
+    ys: &[u16],
+    zs: &[i64],
+    output: &mut [u8],
+) -> PointsWritten
+    ensures { λ r. ⌜ outcome (told r) (now (output .exit)) ≡ rule.writePointsCall (shape m0 n0 h) (survey (now (xs .entry)) (now (ys .entry)) (now (zs .entry))) (now (output .entry)) ⌝ }
+{
+    if let Verdict::Refused(r) = survey::head(m0, n0, h, xs, ys, zs) {
+        return PointsWritten::Refused(r);
+    }
+    let p = xs.len();
+    if output.len() < 8 + 14 * p {
+        return PointsWritten::Refused(Refusal::Short);
+    }
+    if let Verdict::Refused(r) = survey::points(m0 << h, n0 << h, xs, ys, zs) {
+        return PointsWritten::Refused(r);
+    }
+    put_head(m0, n0, h, p, output);
+    put_points(xs, ys, zs, output);
+    PointsWritten::Bytes(8 + 14 * p)
+}
