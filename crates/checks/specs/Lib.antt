@@ -1,3 +1,2 @@
-pub mod Found
+pub mod Ready
 pub mod Passed
-pub mod Scan

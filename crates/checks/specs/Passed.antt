@@ -16,7 +16,7 @@ use Rattle.rules.specs.Laws.Checks.{required, then-first, then-rest, AllInRange
 use Rattle.rules.specs.Laws.Passed.{cells-passed, lattice-passed}
 use Rattle.answers.specs.Cause.{cause}
 use Rattle.answers.specs.declared.Refusal.{Refusal}
-use Rattle.checks.specs.Found.{storedCheck, readyCheck, Tells}
+use Rattle.checks.specs.Ready.{storedCheck, readyCheck, Tells}
 use Rattle.checks.specs.declared.Readiness.{Readiness}
 use Rattle.checks.specs.declared.Readiness.the-variants.{Of, Refused}
 

@@ -6,7 +6,7 @@ ghost use Rattle.rules.specs.Demand3.{CloseEverywhere};
 ghost use Rattle.rules.specs.LatticeFile as latticeFile;
 ghost use Rattle.rules.specs.PointFile as pointFile;
 ghost use Rattle.curlewtable.specs.Fields.{handed, inFields, cellsFields, heightFields, countFields, headerFields};
-use fit::LatticeFitted;
+use fitting::LatticeFitted;
 use heights::Reading;
 use lattice_reader::LatticeRead;
 use lattice_writer::LatticeWritten;

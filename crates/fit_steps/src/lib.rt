@@ -37,7 +37,7 @@ pub fn lower(
         );
         let at = residuals + i;
         let left = whole[at] - there;
-        if !checks::in_range(left) {
+        if !range::in_range(left) {
             return false;
         }
         whole[at] = left;
@@ -75,7 +75,7 @@ pub fn add(count: usize, whole: &mut [i64], level: usize, to: usize) -> bool
     let mut q = 0;
     while q < count {
         let sum = whole[to + q] + whole[level + q];
-        if !checks::in_range(sum) {
+        if !range::in_range(sum) {
             return false;
         }
         whole[to + q] = sum;

@@ -4,7 +4,7 @@ ghost use Prim.Native.Nat.{_^_};
 ghost use Rattle.rules.specs.Grid.{control};
 ghost use Rattle.rules.specs.Surface as rule;
 ghost use Rattle.rules.specs.Calls.{heightCheck, heightAnswer};
-ghost use Rattle.checks.specs.Found.{Tells};
+ghost use Rattle.checks.specs.Ready.{Tells};
 ghost use Rattle.basis.specs.Weighing.{Readable};
 ghost use Rattle.heights.specs.Reading.{told};
 use answers::Refusal;

@@ -10,10 +10,10 @@ ghost use Rattle.answers.specs.Cause.{check};
 ghost use Rattle.lattice_reader.specs.Read.{told, valueCheck, valuesFrom, latticeFrom};
 use answers::Refusal;
 use answers::Verdict;
-use codec::E;
-use codec::H;
-use codec::L;
-use codec::R;
+use records::E;
+use records::H;
+use records::L;
+use records::R;
 
 pub enum LatticeRead {
     Cells(usize, usize),
@@ -24,7 +24,7 @@ pub enum LatticeRead {
 fn head(file: &[u8]) -> Verdict
     ensures { λ r. ⌜ check r ≡ rule.latticeHeadCheck (now (file .entry)) ⌝ }
 {
-    if let Verdict::Refused(r) = codec::record(file, 0, 6, L, H) {
+    if let Verdict::Refused(r) = records::record(file, 0, 6, L, H) {
         return Verdict::Refused(r);
     }
     if !checks::within(1, 512, codec::u16_at(file, 2) as usize) {
@@ -45,7 +45,7 @@ fn values(file: &[u8], m: usize, s: usize) -> Verdict
     while c < m + 3 {
         let at = s + 8 * c;
         let z = codec::value_at(file, at);
-        if !checks::in_range(z) {
+        if !range::in_range(z) {
             return Verdict::Refused(Refusal::Field(at));
         }
         c += 1;
@@ -59,7 +59,7 @@ fn row(file: &[u8], m: usize, r: usize) -> Verdict
     ensures { λ v. ⌜ check v ≡ rule.rowCheck m (now (file .entry)) r ⌝ }
 {
     let s = lattice_layout::row_start(m, r);
-    if let Verdict::Refused(v) = codec::record(file, s, 4 + 8 * (m + 3), L, R) {
+    if let Verdict::Refused(v) = records::record(file, s, 4 + 8 * (m + 3), L, R) {
         return Verdict::Refused(v);
     }
     if codec::u16_at(file, s + 2) as usize != r {
@@ -89,7 +89,7 @@ fn end(file: &[u8], m: usize, n: usize) -> Verdict
     ensures { λ v. ⌜ check v ≡ rule.endCheck m n (now (file .entry)) ⌝ }
 {
     let s = lattice_layout::row_start(m, n + 3);
-    if let Verdict::Refused(v) = codec::record(file, s, 4, L, E) {
+    if let Verdict::Refused(v) = records::record(file, s, 4, L, E) {
         return Verdict::Refused(v);
     }
     if codec::u16_at(file, s + 2) as usize != n + 3 {

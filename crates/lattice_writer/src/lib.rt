@@ -9,10 +9,10 @@ ghost use Rattle.rules.specs.LatticeFile as rule;
 ghost use Rattle.lattice_writer.specs.Written.{told, bytesOfValues};
 use answers::Refusal;
 use answers::Verdict;
-use codec::E;
-use codec::H;
-use codec::L;
-use codec::R;
+use records::E;
+use records::H;
+use records::L;
+use records::R;
 
 pub enum LatticeWritten {
     Bytes(usize),
@@ -37,7 +37,7 @@ fn put_row(lattice: &[i64], m: usize, r: usize, output: &mut [u8])
     ensures { λ _. ⌜ now (output .exit) ≡ laid (rule.rowStart m r) (rule.rowRecord m (now (lattice .entry)) r) (now (output .entry)) ⌝ }
 {
     let s = lattice_layout::row_start(m, r);
-    codec::put_mark(output, s, L, R);
+    records::put_mark(output, s, L, R);
     codec::put_u16(output, s + 2, r as u16);
     let from = r * (m + 3);
     let to = from + (m + 3);
@@ -62,12 +62,12 @@ pub fn put_lattice(m: usize, n: usize, lattice: &[i64], output: &mut [u8]) -> us
     ensures { λ r. ⌜ r ≡ rule.latticeFileLength m n ⌝ }
     ensures { λ _. ⌜ now (output .exit) ≡ over (rule.latticeFile m n (now (lattice .entry))) (now (output .entry)) ⌝ }
 {
-    codec::put_mark(output, 0, L, H);
+    records::put_mark(output, 0, L, H);
     codec::put_u16(output, 2, m as u16);
     codec::put_u16(output, 4, n as u16);
     put_rows(lattice, m, n, output);
     let s = lattice_layout::row_start(m, n + 3);
-    codec::put_mark(output, s, L, E);
+    records::put_mark(output, s, L, E);
     codec::put_u16(output, s + 2, (n + 3) as u16);
     s + 4
 }

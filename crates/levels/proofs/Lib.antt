@@ -1,5 +1,1 @@
-mod Sizes
-mod Judging
-mod Raising
-mod Settling
 mod Stepping

@@ -15,10 +15,10 @@ use Rattle.rules.specs.Fit.{Shape, columns, rows, unitOf, Survey, pointCount, r
 use Rattle.rules.specs.Calls.{K}
 use Rattle.rules.specs.Laws.Checks.{then-none, then-assoc, firstOf-at}
 use Rattle.fit_steps.specs.Steps.{surveyAt}
-use Rattle.levels.specs.Scratch.{Levelable, Before, LevelReady, RunningThere, Judged, FirstHalf, SecondHalf, WholeLevel, Levelled}
-use Rattle.levels.proofs.Sizes.{celled, unit-is, span}
-use Rattle.levels.proofs.Judging.{judged-refused, first-refused, then-judged}
-use Rattle.levels.proofs.Settling.{residuals-kept}
+use Rattle.scratch.specs.Scratch.{Levelable, Before, LevelReady, RunningThere, Judged, FirstHalf, SecondHalf, WholeLevel, Levelled}
+use Rattle.scratch.specs.Sizes.{celled, unit-is, span}
+use Rattle.scratch.specs.Judging.{judged-refused, first-refused, then-judged}
+use Rattle.scratch.specs.Kept.{residuals-kept}
 
 -- ---- one level
 

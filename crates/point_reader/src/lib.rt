@@ -11,9 +11,9 @@ ghost use Rattle.answers.specs.Cause.{check};
 ghost use Rattle.point_reader.specs.Read.{told, header, lastX, lastY};
 use answers::Refusal;
 use answers::Verdict;
-use codec::H;
-use codec::P;
-use codec::T;
+use records::H;
+use records::P;
+use records::T;
 
 // What a point file's head says: m0, n0, h and the number of points.
 pub struct Header {
@@ -32,7 +32,7 @@ pub enum PointsRead {
 fn head(file: &[u8]) -> Verdict
     ensures { λ r. ⌜ check r ≡ rule.pointHeadCheck (now (file .entry)) ⌝ }
 {
-    if let Verdict::Refused(r) = codec::record(file, 0, 8, P, H) {
+    if let Verdict::Refused(r) = records::record(file, 0, 8, P, H) {
         return Verdict::Refused(r);
     }
     if !checks::within(1, 16, file[2] as usize) {
@@ -56,7 +56,7 @@ fn point(file: &[u8], right: usize, top: usize, i: usize) -> Verdict
     ensures { λ r. ⌜ check r ≡ rule.pointRecordCheck (rule.fileShape (now (file .entry))) (now (file .entry)) i ⌝ }
 {
     let s = 8 + 14 * i;
-    if let Verdict::Refused(r) = codec::record(file, s, 14, P, T) {
+    if let Verdict::Refused(r) = records::record(file, s, 14, P, T) {
         return Verdict::Refused(r);
     }
     if right < codec::u16_at(file, s + 2) as usize {
@@ -65,7 +65,7 @@ fn point(file: &[u8], right: usize, top: usize, i: usize) -> Verdict
     if top < codec::u16_at(file, s + 4) as usize {
         return Verdict::Refused(Refusal::Field(s + 4));
     }
-    if !checks::in_range(codec::value_at(file, s + 6)) {
+    if !range::in_range(codec::value_at(file, s + 6)) {
         return Verdict::Refused(Refusal::Field(s + 6));
     }
     Verdict::Fine

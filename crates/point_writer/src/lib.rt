@@ -10,9 +10,9 @@ ghost use Rattle.rules.specs.Laws.PointFile.{recordOf};
 ghost use Rattle.point_writer.specs.Written.{told, headBytes};
 use answers::Refusal;
 use answers::Verdict;
-use codec::H;
-use codec::P;
-use codec::T;
+use records::H;
+use records::P;
+use records::T;
 
 pub enum PointsWritten {
     Bytes(usize),
@@ -24,7 +24,7 @@ fn put_head(m0: usize, n0: usize, h: usize, p: usize, output: &mut [u8])
     requires { ⌜ (m0 < 256) × (n0 < 256) × (h < 256) × (p < 65_536) × (8 ≤ length (now output)) ⌝ }
     ensures { λ _. ⌜ now (output .exit) ≡ over (headBytes m0 n0 h p) (now (output .entry)) ⌝ }
 {
-    codec::put_mark(output, 0, P, H);
+    records::put_mark(output, 0, P, H);
     output[2] = m0 as u8;
     output[3] = n0 as u8;
     output[4] = h as u8;
@@ -37,7 +37,7 @@ fn put_point(x: u16, y: u16, z: i64, s: usize, output: &mut [u8])
     requires { ⌜ s + 14 ≤ length (now output) ⌝ }
     ensures { λ _. ⌜ now (output .exit) ≡ laid s (rule.pointRecord (record { x = x; y = y; z = z })) (now (output .entry)) ⌝ }
 {
-    codec::put_mark(output, s, P, T);
+    records::put_mark(output, s, P, T);
     codec::put_u16(output, s + 2, x);
     codec::put_u16(output, s + 4, y);
     codec::put_value(output, s + 6, z);

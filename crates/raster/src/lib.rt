@@ -7,7 +7,7 @@ ghost use lib.ListN.{length};
 ghost use Rattle.algebra.specs.Table.{tabulate, over};
 ghost use Rattle.rules.specs.Answers.{outcome};
 ghost use Rattle.rules.specs.Calls as calls;
-ghost use Rattle.checks.specs.Found.{Tells};
+ghost use Rattle.checks.specs.Ready.{Tells};
 ghost use Rattle.raster.specs.Sampled.{told, Samplable, nodeHeight};
 use answers::Refusal;
 use answers::Verdict;

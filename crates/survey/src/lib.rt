@@ -45,7 +45,7 @@ pub fn points(m: usize, n: usize, xs: &[u16], ys: &[u16], zs: &[i64]) -> Verdict
         if top < ys[i] as usize {
             return Verdict::Refused(Refusal::Position(i));
         }
-        if !checks::in_range(zs[i]) {
+        if !range::in_range(zs[i]) {
             return Verdict::Refused(Refusal::Range(i));
         }
         i += 1;

@@ -5,7 +5,7 @@ use borrow.Author.Needs.{needs}
 use Rattle.rules.specs.Calls.{cellsCheck}
 use Rattle.rules.specs.Laws.Checks.{then-some, then-none}
 use Rattle.answers.specs.Cause.{check}
-use Rattle.checks.specs.Found.{gridCheck}
+use Rattle.checks.specs.Ready.{gridCheck}
 use Rattle.checks.specs.Passed.{cells-gridded, tells-refusal}
 use Rattle.checks.proofs.gridded.Statement.{statement}
 use Rattle.checks.proofs.gridded.Tie as tie

@@ -8,8 +8,8 @@ use lib.IntN.{ℤ}
 use Rattle.rules.specs.Grid.{controls}
 use Rattle.rules.specs.Answers.{Refusal, range, rangeCheck}
 use Rattle.rules.specs.Calls.{latticeCheck}
-use Rattle.checks.specs.declared.Found.{Found}
-use Rattle.checks.specs.Found.{foundCheck}
+use Rattle.range.specs.declared.Found.{Found}
+use Rattle.range.specs.Found.{foundCheck}
 use Rattle.checks.proofs.lattice.Statement.{statement}
 use Rattle.checks.proofs.lattice.Tie as tie
 

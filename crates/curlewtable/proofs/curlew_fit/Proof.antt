@@ -4,7 +4,7 @@ use borrow.Author.Needs.{needs}
 use Rattle.answers.specs.Cause.{cause}
 use Rattle.rules.specs.Demand3.{Demand3}
 use Rattle.rules.specs.Laws.Checks.{number-some}
-use Rattle.fit.specs.LatticeFitted.{told}
+use Rattle.fitting.specs.LatticeFitted.{told}
 use Rattle.curlewtable.specs.Fields.{cellsFields}
 use Rattle.curlewtable.proofs.Handed.{call-handed}
 use Rattle.curlewtable.proofs.curlew_fit.Statement.{statement}

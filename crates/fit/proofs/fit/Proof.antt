@@ -10,7 +10,7 @@ use Rattle.rules.specs.Fit.{Shape, shape, Survey, survey, pointCount, columns, 
 use Rattle.rules.specs.Calls.{Lent, lent, surveyCheck, lentCheck, pointsCheck}
 use Rattle.rules.specs.Laws.Passed.{Surveyed, survey-passed}
 use Rattle.answers.specs.Cause.{check}
-use Rattle.levels.specs.Scratch.{Celled}
+use Rattle.scratch.specs.Scratch.{Celled}
 use Rattle.fit.proofs.Answering.{refused-head, refused-room, refused-points, run-cleared, room-is, Roomy, roomy, finest-celled, most-is, points-is, run-ready}
 use Rattle.fit.proofs.fit.Statement.{statement}
 use Rattle.fit.proofs.fit.Tie as tie

@@ -9,7 +9,7 @@ use lib.ListN.{length}
 use Rattle.algebra.specs.Table.{free-wider, free-again}
 use Rattle.rules.specs.Fit.{Shape, shape, Survey, survey}
 use Rattle.answers.specs.Cause.{check}
-use Rattle.levels.specs.Scratch.{Levelable, Before, LevelReady}
+use Rattle.scratch.specs.Scratch.{Levelable, Before, LevelReady}
 use Rattle.levels.proofs.Stepping.{level-ready, level-refused, level-done}
 use Rattle.levels.proofs.fit_level.Statement.{statement}
 use Rattle.levels.proofs.fit_level.Tie as tie

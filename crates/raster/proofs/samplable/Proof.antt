@@ -16,7 +16,7 @@ use Rattle.rules.specs.Grid.{inside, controls}
 use Rattle.rules.specs.Calls.{Nodes, cellsCheck, unitCheck, latticeCheck, rasterCheck, sizeCheck, nodesCheck}
 use Rattle.rules.specs.Laws.Checks.{then-none, then-some, then-assoc}
 use Rattle.answers.specs.Cause.{check}
-use Rattle.checks.specs.Found.{gridCheck, storedCheck}
+use Rattle.checks.specs.Ready.{gridCheck, storedCheck}
 use Rattle.checks.specs.Passed.{Gridded, stored-passed, last-fits, exponent-check, refusal-check, tells-exponent, tells-refusal}
 use Rattle.nodes.specs.Inside.{size-passed, nodes-inside}
 use Rattle.raster.proofs.samplable.Statement.{statement}

@@ -1,0 +1,4 @@
+pub mod Scratch
+pub mod Sizes
+pub mod Judging
+pub mod Kept
