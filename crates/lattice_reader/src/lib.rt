@@ -122,7 +122,11 @@ fn copy(file: &[u8], m: usize, n: usize, output: &mut [i64])
     while r < n + 3 {
         let from = r * (m + 3);
         let to = from + (m + 3);
-        copy_row(file, lattice_layout::row_start(m, r) + 4, &mut output[from..to]);
+        copy_row(
+            file,
+            lattice_layout::row_start(m, r) + 4,
+            &mut output[from..to],
+        );
         r += 1;
     }
 }

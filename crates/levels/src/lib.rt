@@ -41,7 +41,17 @@ fn fit_level(
     let m = cells(m0, k);
     let n = cells(n0, k);
     let e = (4 + h - k) as u32;
-    if let Verdict::Refused(r) = residual_step::settle_level(m, n, e, k, most, xs, ys, whole, floats) {
+    if let Verdict::Refused(r) = residual_step::settle_level(
+        m,
+        n,
+        e,
+        k,
+        most,
+        xs,
+        ys,
+        whole,
+        floats,
+    ) {
         return Verdict::Refused(r);
     }
     running_step::raise_level(m, n, k, most, whole)
