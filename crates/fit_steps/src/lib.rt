@@ -8,43 +8,7 @@ ghost use Rattle.algebra.specs.Table.{Apart, over, laid, area};
 ghost use Rattle.rules.specs.Grid.{controls, control, store};
 ghost use Rattle.rules.specs.Refinement.{refined};
 ghost use Rattle.rules.specs.Laws.Checks.{AllInRange};
-ghost use Rattle.fit_steps.specs.Steps.{surveyAt, lessHeights, summed, Lowerable, Written};
-
-// "take from each residual the height of level lattice k there": false where a residual leaves its range
-pub fn lower(
-    m: usize,
-    n: usize,
-    e: u32,
-    xs: &[u16],
-    ys: &[u16],
-    whole: &mut [i64],
-    level: usize,
-    residuals: usize,
-) -> bool
-    requires { ⌜ Lowerable m n e (now xs) (now ys) (now whole) level residuals ⌝ }
-    ensures { λ ok. ⌜ Written ok residuals (length (now (xs .entry))) (lessHeights m n e (area level (controls m n) (now (whole .entry))) (surveyAt (now (xs .entry)) (now (ys .entry)) residuals (now (whole .entry)))) (now (whole .entry)) (now (whole .exit)) ⌝ }
-{
-    let end = level + (m + 3) * (n + 3);
-    let mut i = 0;
-    while i < xs.len() {
-        let there = heights::height_within(
-            m,
-            n,
-            e,
-            &whole[level..end],
-            xs[i] as usize,
-            ys[i] as usize,
-        );
-        let at = residuals + i;
-        let left = whole[at] - there;
-        if !range::in_range(left) {
-            return false;
-        }
-        whole[at] = left;
-        i += 1;
-    }
-    true
-}
+ghost use Rattle.fit_steps.specs.Steps.{summed, Written};
 
 // The refinement of the m by n lattice at from, written at to, apart from it.
 pub fn refine_at(m: usize, n: usize, whole: &mut [i64], from: usize, to: usize)

@@ -16,7 +16,7 @@ use Rattle.rules.specs.Fit.{Shape, columns, rows, Survey, survey, singleLattice
 use Rattle.rules.specs.Answers.{Refusal, quotient, inLevels, Check, accepted, refused, outcome}
 use Rattle.rules.specs.Calls.{lent, K, results, cleared, fitEnd}
 use Rattle.rules.specs.Laws.Checks.{Only, only-require, only-then, only-firstOf, only-rangeCheck}
-use Rattle.fit_steps.specs.Steps.{surveyAt}
+use Rattle.lowering.specs.Lowered.{surveyAt}
 use Rattle.scratch.specs.Scratch.{Levelable, Levelled}
 
 -- ---- which refusals are those of the levels

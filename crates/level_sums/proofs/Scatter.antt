@@ -22,7 +22,8 @@ use Rattle.rules.specs.Laws.Surface.{place-below}
 use Rattle.checks.specs.Passed.{controls-fit}
 use Rattle.weights.specs.Block.{weightAt, pointBlock, weight-is, squares-are}
 use Rattle.level_sums.specs.Pairs.{pair-path, length-paired, pair-over}
-use Rattle.level_sums.specs.Sums.{pairAt, row, rows, pointAdded, paired, sumTable}
+use Rattle.point_sums.specs.Sums.{pairAt, row, rows}
+use Rattle.level_sums.specs.Gathered.{pointAdded, paired, sumTable}
 
 -- ---- tests
 

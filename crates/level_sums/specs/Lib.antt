@@ -1,2 +1,2 @@
-pub mod Sums
+pub mod Gathered
 pub mod Pairs

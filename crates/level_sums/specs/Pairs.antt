@@ -9,7 +9,8 @@ use lib.Seq.{getD-append-add}
 use Rattle.algebra.specs.Table.{tabulate, over, length-tabulate, getD-tabulate, getD-over}
 use Rattle.rules.specs.Grid.{controls}
 use Rattle.rules.specs.Level as rule
-use Rattle.level_sums.specs.Sums.{pairAt, paired, sumTable}
+use Rattle.point_sums.specs.Sums.{pairAt}
+use Rattle.level_sums.specs.Gathered.{paired, sumTable}
 
 -- ---- pairs in scratch
 

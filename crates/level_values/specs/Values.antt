@@ -12,7 +12,7 @@ use Rattle.rules.specs.Answers as answer
 use Rattle.rules.specs.Level as rule
 use Rattle.rules.specs.Fit.{present, orZero}
 use Rattle.answers.specs.Cause.{okCheck}
-use Rattle.level_sums.specs.Sums.{pairAt}
+use Rattle.point_sums.specs.Sums.{pairAt}
 use Rattle.level_values.specs.declared.Coefficient.{Coefficient}
 use Rattle.level_values.specs.declared.Coefficient.the-variants.{Fitted, Untouched}
 

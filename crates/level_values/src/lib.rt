@@ -4,10 +4,10 @@ ghost use Prim.Native.Nat.{_*_, _≤_};
 ghost use lib.ListN.{length};
 ghost use Rattle.rules.specs.Level as rule;
 ghost use Rattle.float_near.specs.Settled.{settledValue};
-ghost use Rattle.level_sums.specs.Sums.{sumsOf};
+ghost use Rattle.point_sums.specs.Sums.{sumsOf};
 ghost use Rattle.level_values.specs.Values.{coefficientOf, SettledAll};
 use float_near::Settled;
-use level_sums::Sums;
+use point_sums::Sums;
 
 // A control value's quotient, or that no point has reached it.
 enum Coefficient {

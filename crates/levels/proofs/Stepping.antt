@@ -14,7 +14,7 @@ use Rattle.rules.specs.Grid.{cellsAt}
 use Rattle.rules.specs.Fit.{Shape, columns, rows, unitOf, Survey, pointCount, residuals, levelCheck, levelsCheck, quotientCheck, residualCheck, sumCheck}
 use Rattle.rules.specs.Calls.{K}
 use Rattle.rules.specs.Laws.Checks.{then-none, then-assoc, firstOf-at}
-use Rattle.fit_steps.specs.Steps.{surveyAt}
+use Rattle.lowering.specs.Lowered.{surveyAt}
 use Rattle.scratch.specs.Scratch.{Levelable, Before, LevelReady, RunningThere, Judged, FirstHalf, SecondHalf, WholeLevel, Levelled}
 use Rattle.scratch.specs.Sizes.{celled, unit-is, span}
 use Rattle.scratch.specs.Judging.{judged-refused, first-refused, then-judged}

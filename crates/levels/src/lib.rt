@@ -10,7 +10,7 @@ ghost use Rattle.algebra.specs.Table.{Free};
 ghost use Rattle.rules.specs.Grid.{cellsAt};
 ghost use Rattle.rules.specs.Fit as rule;
 ghost use Rattle.answers.specs.Cause.{check};
-ghost use Rattle.fit_steps.specs.Steps.{surveyAt};
+ghost use Rattle.lowering.specs.Lowered.{surveyAt};
 ghost use Rattle.scratch.specs.Scratch.{Levelable, Before, WholeLevel, Levelled};
 use answers::Verdict;
 

@@ -1,1 +1,2 @@
+mod Level
 mod Settling

@@ -17,11 +17,12 @@ use Rattle.rules.specs.Laws.Checks.{rangeCheck-size}
 use Rattle.rules.specs.Laws.Fit.{length-level, length-residuals}
 use Rattle.answers.specs.Cause.{okCheck}
 use Rattle.checks.specs.Passed.{Gridded}
-use Rattle.level_sums.specs.Sums.{sumTable, Fittable}
+use Rattle.level_sums.specs.Gathered.{sumTable, Fittable}
 use Rattle.level_sums.specs.Pairs.{length-sums}
 use Rattle.level_values.specs.Values.{settledAt, SettledAll}
-use Rattle.level_values.specs.Level.{values-table, refused-table}
-use Rattle.fit_steps.specs.Steps.{surveyAt, lessHeights, Lowerable, Written}
+use Rattle.residual_step.proofs.Level.{values-table, refused-table}
+use Rattle.fit_steps.specs.Steps.{Written}
+use Rattle.lowering.specs.Lowered.{surveyAt, lessHeights, Lowerable}
 use Rattle.scratch.specs.Scratch.{LevelReady, Halfway, Judged, places}
 use Rattle.scratch.specs.Sizes.{count-is, few}
 use Rattle.scratch.specs.Judging.{judged}

@@ -35,7 +35,7 @@ pub fn settle_level(
     if !level_values::settle_all(count, floats, &mut whole[level..level_end]) {
         return Verdict::Refused(Refusal::Quotient(k));
     }
-    if !fit_steps::lower(m, n, e, xs, ys, whole, level, residuals) {
+    if !lowering::lower(m, n, e, xs, ys, whole, level, residuals) {
         return Verdict::Refused(Refusal::Residual(k));
     }
     Verdict::Fine

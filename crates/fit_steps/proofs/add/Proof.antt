@@ -6,8 +6,8 @@ use Rattle.algebra.specs.Table.{Apart, area}
 use Rattle.machine.specs.Held.{Number, number, read, plus, fits}
 use Rattle.rules.specs.Laws.Checks.{AllInRange}
 use Rattle.fit_steps.specs.Steps.{sumAt, summed}
-use Rattle.fit_steps.proofs.Entries.{entry-held}
-use Rattle.fit_steps.proofs.Tested.{Tested, untested, passed, refused, accepted}
+use Rattle.fit_steps.specs.Entries.{entry-held}
+use Rattle.fit_steps.specs.Tested.{Tested, untested, passed, refused, accepted}
 use Rattle.fit_steps.proofs.add.Statement.{statement}
 use Rattle.fit_steps.proofs.add.Tie as tie
 

@@ -16,7 +16,8 @@ use Rattle.rules.specs.Laws.Basis.{offset-within}
 use Rattle.basis.specs.Weighing.{Located}
 use Rattle.basis.specs.declared.Spot.{Spot}
 use Rattle.weights.specs.Block.{blockOf, weightAt, pointBlock}
-use Rattle.level_sums.specs.Sums.{Fitting, blockAdded, pointAdded}
+use Rattle.point_sums.specs.Sums.{blockAdded}
+use Rattle.level_sums.specs.Gathered.{Fitting, pointAdded}
 use Rattle.level_sums.proofs.Scatter.{placeOf, room, controls-most}
 use Rattle.level_sums.proofs.add_point.Statement.{statement}
 use Rattle.level_sums.proofs.add_point.Tie as tie

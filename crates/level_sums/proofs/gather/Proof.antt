@@ -12,7 +12,7 @@ use Rattle.machine.specs.Tests.{plain}
 use Rattle.rules.specs.Grid.{controls}
 use Rattle.rules.specs.Level as rule
 use Rattle.rules.specs.Fit.{Survey, survey, pointCount, pointAt, pointsOf}
-use Rattle.level_sums.specs.Sums.{Fitting, Fittable, pointAdded, sumTable}
+use Rattle.level_sums.specs.Gathered.{Fitting, Fittable, pointAdded, sumTable}
 use Rattle.level_sums.specs.Pairs.{length-sums}
 use Rattle.level_sums.proofs.Scatter.{controls-most, none-gathered, one-more}
 use Rattle.level_sums.proofs.gather.Statement.{statement}

@@ -17,7 +17,7 @@ use Rattle.rules.specs.Fit.{present, orZero}
 use Rattle.rules.specs.Level as rule
 use Rattle.rules.specs.Laws.Checks.{then-none, firstOf-at}
 use Rattle.float_near.specs.Settled.{settledValue}
-use Rattle.level_sums.specs.Sums.{pairAt}
+use Rattle.point_sums.specs.Sums.{pairAt}
 use Rattle.level_values.specs.Values.{settledAt, SettledAll}
 use Rattle.level_values.proofs.settle_all.Statement.{statement}
 use Rattle.level_values.proofs.settle_all.Tie as tie

@@ -6,7 +6,7 @@ use borrow.Author.Needs.{needs}
 use Rattle.algebra.specs.Table.{free-again}
 use Rattle.rules.specs.Fit.{shape}
 use Rattle.answers.specs.Cause.{check}
-use Rattle.fit_steps.specs.Steps.{surveyAt}
+use Rattle.lowering.specs.Lowered.{surveyAt}
 use Rattle.levels.proofs.Stepping.{Passing, beginning, levelable, whole-long, floats-long, passing, levels-refused, levels-done}
 use Rattle.levels.proofs.fit_levels.Statement.{statement}
 use Rattle.levels.proofs.fit_levels.Tie as tie

@@ -1,8 +1,8 @@
--- `level_sums::grown_pair` meets its contract: the two sums that it reads are the pair at place q.
+-- `point_sums::grown_pair` meets its contract: the two sums that it reads are the pair at place q.
 use borrow.Author.Needs.{needs}
-use Rattle.level_sums.specs.Sums.{pairAt}
-use Rattle.level_sums.proofs.grown_pair.Statement.{statement}
-use Rattle.level_sums.proofs.grown_pair.Tie as tie
+use Rattle.point_sums.specs.Sums.{pairAt}
+use Rattle.point_sums.proofs.grown_pair.Statement.{statement}
+use Rattle.point_sums.proofs.grown_pair.Tie as tie
 
 returns : tie.Need-returns
 unfolding pairAt

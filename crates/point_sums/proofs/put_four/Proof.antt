@@ -1,4 +1,4 @@
--- `level_sums::put_four` meets its contract: four stores, one place after the other, lay a list of four.
+-- `point_sums::put_four` meets its contract: four stores, one place after the other, lay a list of four.
 use borrow.Author.Needs.{needs}
 use Prim.Native.Nat.{ℕ, suc, _+_, _≤_}
 use mathlib.Core.Path.{_≡_}
@@ -7,8 +7,8 @@ use native.Mathlib.Omega.{arith}
 use lib.Ieee.{Float}
 use lib.ListN.{length, set, length-set}
 use Rattle.algebra.specs.Table.{laid, laid-sets}
-use Rattle.level_sums.proofs.put_four.Statement.{statement}
-use Rattle.level_sums.proofs.put_four.Tie as tie
+use Rattle.point_sums.proofs.put_four.Statement.{statement}
+use Rattle.point_sums.proofs.put_four.Tie as tie
 
 stores-laid : (l : List Float) (q : ℕ) (v0 v1 v2 v3 : Float) → q + 4 ≤ length l
     → set (set (set (set l q v0) (q + 1) v1) (q + 2) v2) (q + 3) v3 ≡ laid q (v0 ∷ v1 ∷ v2 ∷ v3 ∷ []) l

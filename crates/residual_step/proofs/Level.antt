@@ -10,9 +10,10 @@ use Rattle.rules.specs.Answers as answer
 use Rattle.rules.specs.Grid.{controls, store}
 use Rattle.rules.specs.Level as rule
 use Rattle.rules.specs.Fit.{present, orZero}
-use Rattle.level_sums.specs.Sums.{pairAt, sumTable}
+use Rattle.point_sums.specs.Sums.{pairAt}
+use Rattle.level_sums.specs.Gathered.{sumTable}
 use Rattle.level_sums.specs.Pairs.{pair-table}
 use Rattle.level_values.specs.Values.{settledAt}
 
 pub firstOf-same : (n : ℕ) (f g : ℕ → answer.Check) → ((i : ℕ) → i < n → f i ≡ g i) → answer.firstOf n f ≡ answer.firstOf n g
 unfolding answer.firstOf

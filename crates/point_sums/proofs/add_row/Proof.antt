@@ -1,4 +1,4 @@
--- `level_sums::add_row` meets its contract: the four pairs that `grown_pair` makes are put back, first sums from q on and second sums from count + q on.
+-- `point_sums::add_row` meets its contract: the four pairs that `grown_pair` makes are put back, first sums from q on and second sums from count + q on.
 use borrow.Author.Needs.{needs}
 use Prim.Native.Nat.{ℕ, _+_}
 use mathlib.Core.Path.{_≡_}
@@ -9,9 +9,9 @@ use lib.Ieee.{Float}
 use Rattle.algebra.specs.Table.{tabulate, laid}
 use Rattle.rules.specs.Level as rule
 use Rattle.weights.specs.Block.{weightAt}
-use Rattle.level_sums.specs.Sums.{pairAt, row}
-use Rattle.level_sums.proofs.add_row.Statement.{statement}
-use Rattle.level_sums.proofs.add_row.Tie as tie
+use Rattle.point_sums.specs.Sums.{pairAt, row}
+use Rattle.point_sums.proofs.add_row.Statement.{statement}
+use Rattle.point_sums.proofs.add_row.Tie as tie
 
 put-back : (f : ℕ → rule.Sums → rule.Sums) (count q : ℕ) (sums middle last : List Float) (p0 p1 p2 p3 : rule.Sums)
     → p0 ≡ f 0 (pairAt count sums q) → p1 ≡ f 1 (pairAt count sums (q + 1)) → p2 ≡ f 2 (pairAt count sums (q + 2)) → p3 ≡ f 3 (pairAt count sums (q + 3))

@@ -1,4 +1,4 @@
--- `level_sums::add_block` meets its contract: four rows, each a lattice row after the one before.
+-- `point_sums::add_block` meets its contract: four rows, each a lattice row after the one before.
 use borrow.Author.Needs.{needs}
 use Prim.Native.Nat.{ℕ, _+_, _*_}
 use mathlib.Core.Path.{_≡_}
@@ -7,9 +7,9 @@ use native.Mathlib.Omega.{arith}
 use lib.Ieee.{Float}
 use Rattle.rules.specs.Level as rule
 use Rattle.weights.specs.Block.{weightAt}
-use Rattle.level_sums.specs.Sums.{row, rows, blockAdded}
-use Rattle.level_sums.proofs.add_block.Statement.{statement}
-use Rattle.level_sums.proofs.add_block.Tie as tie
+use Rattle.point_sums.specs.Sums.{row, rows, blockAdded}
+use Rattle.point_sums.proofs.add_block.Statement.{statement}
+use Rattle.point_sums.proofs.add_block.Tie as tie
 
 four : (w : ℕ → ℕ → Float) (z s : Float) (width count q : ℕ) (l0 l1 l2 l3 l4 : List Float)
     → s ≡ rule.squares w

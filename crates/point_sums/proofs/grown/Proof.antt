@@ -1,8 +1,8 @@
--- `level_sums::grown` meets its contract: its operations are those of the rule, in the same order.
+-- `point_sums::grown` meets its contract: its operations are those of the rule, in the same order.
 use mathlib.Core.Path.{refl}
 use Rattle.rules.specs.Level as rule
-use Rattle.level_sums.proofs.grown.Statement.{statement}
-use Rattle.level_sums.proofs.grown.Tie as tie
+use Rattle.point_sums.proofs.grown.Statement.{statement}
+use Rattle.point_sums.proofs.grown.Tie as tie
 
 returns : tie.Need-returns
 unfolding rule.grown

@@ -1,4 +1,4 @@
--- `fit_steps::lower` meets its contract. The loop's invariant: the residuals passed are lowered and none is out of range; the level lattice and
+-- `lowering::lower` meets its contract. The loop's invariant: the residuals passed are lowered and none is out of range; the level lattice and
 -- the residuals to lower are as they were.
 use mathlib.Core.Path.{_≡_, ap, _∙_}
 use mathlib.Core.List.{List}
@@ -15,11 +15,11 @@ use Rattle.rules.specs.Surface.{height}
 use Rattle.rules.specs.Laws.Surface.{control-within, height-within}
 use Rattle.basis.specs.Weighing.{Readable}
 use Rattle.algebra.specs.Partly.{part-kept}
-use Rattle.fit_steps.specs.Steps.{surveyAt, lessHeight, lessHeights}
-use Rattle.fit_steps.proofs.Entries.{entry-held}
-use Rattle.fit_steps.proofs.Tested.{Tested, untested, passed, refused, accepted}
-use Rattle.fit_steps.proofs.lower.Statement.{statement}
-use Rattle.fit_steps.proofs.lower.Tie as tie
+use Rattle.lowering.specs.Lowered.{surveyAt, lessHeight, lessHeights}
+use Rattle.fit_steps.specs.Entries.{entry-held}
+use Rattle.fit_steps.specs.Tested.{Tested, untested, passed, refused, accepted}
+use Rattle.lowering.proofs.lower.Statement.{statement}
+use Rattle.lowering.proofs.lower.Tie as tie
 
 abbrev Inv-loop : tie.InvT-loop
 Inv-loop m n e xs ys whole₀ level residuals end i₀ whole i =

@@ -1,2 +1,0 @@
-mod Entries
-mod Tested
