@@ -1,3 +1,4 @@
+-- What the answer of a height says.
 use lib.IntN.{ℤ}
 use Rattle.rules.specs.Answers as rule
 use Rattle.answers.specs.Cause.{cause}

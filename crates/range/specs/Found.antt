@@ -1,3 +1,4 @@
+-- What the answer of a scan says.
 use Prim.Native.Nat.{ℕ}
 use mathlib.Core.Option.{none, some}
 use Rattle.rules.specs.Answers as rule

@@ -1,24 +1,19 @@
 -- What the sums in scratch settle to, once every point is added: the rule's control values, and which of them are refused.
 -- A caller of `gather` and `settle_all` takes the level lattice from values-table and the refusal from refused-table.
-use Prim.Native.Nat.{ℕ, zero, suc, _+_, _/_, _%_, _<_}
-use mathlib.Core.Path.{_≡_, refl, ap, ap₂, _∙_}
+use Prim.Native.Nat.{ℕ, _+_, _/_, _%_, _<_}
+use mathlib.Core.Path.{_≡_, ap, _∙_}
 use mathlib.Core.List.{List}
-use native.Mathlib.Omega.{arith}
 use lib.Ieee.{Float}
 use Rattle.algebra.specs.Table.{tabulate, over, tabulate-same}
 use Rattle.rules.specs.Answers as answer
 use Rattle.rules.specs.Grid.{controls, store}
 use Rattle.rules.specs.Level as rule
 use Rattle.rules.specs.Fit.{present, orZero}
+use Rattle.rules.specs.Laws.Checks.{firstOf-same}
 use Rattle.point_sums.specs.Sums.{pairAt}
 use Rattle.level_sums.specs.Gathered.{sumTable}
 use Rattle.level_sums.specs.Pairs.{pair-table}
 use Rattle.level_values.specs.Values.{settledAt}
-
-pub firstOf-same : (n : ℕ) (f g : ℕ → answer.Check) → ((i : ℕ) → i < n → f i ≡ g i) → answer.firstOf n f ≡ answer.firstOf n g
-unfolding answer.firstOf
-firstOf-same zero f g h = refl
-firstOf-same (suc n) f g h = ap₂ answer._then_ (firstOf-same n f g (λ i l. h i (omega arith))) (h n (omega arith))
 
 module _ (U m n : ℕ) (points : List rule.Point) (d sums : List Float) (is : sums ≡ over (sumTable U m n points) d) where
   pub settled-table : (q : ℕ) → q < controls m n → settledAt (controls m n) sums q ≡ rule.fittedAt U m n points (q % (m + 3)) (q / (m + 3))

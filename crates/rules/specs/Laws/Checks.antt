@@ -1,5 +1,5 @@
 -- Laws of checks: what an accepted run of checks has shown, and which offender a refusal names.
-use mathlib.Core.Path.{_≡_, refl, sym, _∙_, ap, subst}
+use mathlib.Core.Path.{_≡_, refl, sym, _∙_, ap, ap₂, subst}
 use mathlib.Core.Bool.{Bool, true, false}
 use mathlib.Core.Option.{none, some}
 use mathlib.Core.List.{List}
@@ -68,6 +68,11 @@ then-assoc none d e = refl
 then-assoc (some r) d e = refl
 
 -- ---- the first of many
+
+pub firstOf-same : (n : ℕ) (f g : ℕ → Check) → ((i : ℕ) → i < n → f i ≡ g i) → firstOf n f ≡ firstOf n g
+unfolding firstOf
+firstOf-same zero f g h = refl
+firstOf-same (suc n) f g h = ap₂ _then_ (firstOf-same n f g (λ i l. h i (omega arith))) (h n (omega arith))
 
 pub firstOf-none : (n : ℕ) (f : ℕ → Check) → firstOf n f ≡ none → (i : ℕ) → i < n → f i ≡ none
 unfolding firstOf
