@@ -8,7 +8,7 @@ use Rattle.rules.specs.Grid.{controls}
 use Rattle.rules.specs.Surface.{numerator, cell, offset}
 use Rattle.rules.specs.Laws.Basis.{totalSize}
 use Rattle.rules.specs.Laws.Checks.{AllInRange}
-use Rattle.checks.specs.Passed.{Gridded}
+use Rattle.rules.specs.Laws.Passed.{Gridded}
 use Rattle.basis.specs.declared.Basis.{Basis}
 use Rattle.basis.specs.declared.Spot.{Spot}
 

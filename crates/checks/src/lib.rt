@@ -7,7 +7,7 @@ ghost use Rattle.rules.specs.Grid.{controls};
 ghost use Rattle.rules.specs.Calls.{cellsCheck, unitCheck, latticeCheck};
 ghost use Rattle.answers.specs.Cause.{check};
 ghost use Rattle.checks.specs.Ready.{Tells, gridCheck, storedCheck};
-ghost use Rattle.checks.specs.Passed.{Gridded};
+ghost use Rattle.rules.specs.Laws.Passed.{Gridded};
 use answers::Refusal;
 use answers::Verdict;
 use range::Found;

@@ -18,9 +18,8 @@ use Rattle.rules.specs.Answers.{Refusal, cells, levels, lists, short, position,
 use Rattle.rules.specs.Calls.{CellCounts, Lent, lent, K, surveyCheck, cellsCheck, hCheck, listsCheck, roomCheck, lentCheck, pointCheck, pointsCheck, fitCheck, cleared, fitEnd, fitCall}
 use Rattle.rules.specs.Demand3.{Demand3}
 use Rattle.rules.specs.Laws.Checks.{Only, only-require, only-then, only-firstOf, required, then-assoc}
-use Rattle.rules.specs.Laws.Passed.{Sides, Surveyed, level-sides, points-passed}
+use Rattle.rules.specs.Laws.Passed.{Sides, Surveyed, level-sides, points-passed, controls-fit}
 use Rattle.rules.specs.Laws.Distance.{demand3}
-use Rattle.checks.specs.Passed.{controls-fit}
 use Rattle.scratch.specs.Scratch.{Levelable, Celled}
 
 -- ---- the fit

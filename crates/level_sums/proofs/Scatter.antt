@@ -19,7 +19,7 @@ use Rattle.rules.specs.Surface.{cell}
 use Rattle.rules.specs.Level as rule
 use Rattle.rules.specs.Laws.Basis.{cell-below}
 use Rattle.rules.specs.Laws.Surface.{place-below}
-use Rattle.checks.specs.Passed.{controls-fit}
+use Rattle.rules.specs.Laws.Passed.{controls-fit}
 use Rattle.weights.specs.Block.{weightAt, pointBlock, weight-is, squares-are}
 use Rattle.level_sums.specs.Pairs.{pair-path, length-paired, pair-over}
 use Rattle.point_sums.specs.Sums.{pairAt, row, rows}

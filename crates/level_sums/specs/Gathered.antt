@@ -9,7 +9,7 @@ use Rattle.rules.specs.Grid.{controls}
 use Rattle.rules.specs.Surface.{cell}
 use Rattle.rules.specs.Level as rule
 use Rattle.rules.specs.Fit.{Survey, pointCount, pointAt}
-use Rattle.checks.specs.Passed.{Gridded}
+use Rattle.rules.specs.Laws.Passed.{Gridded}
 use Rattle.weights.specs.Block.{weightAt, pointBlock}
 use Rattle.point_sums.specs.Sums.{blockAdded}
 

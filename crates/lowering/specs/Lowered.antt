@@ -9,8 +9,7 @@ use Rattle.rules.specs.Grid.{controls, control}
 use Rattle.rules.specs.Surface.{height}
 use Rattle.rules.specs.Fit.{Survey, survey, pointCount, pointAt}
 use Rattle.rules.specs.Laws.Checks.{AllInRange}
-use Rattle.rules.specs.Laws.Passed.{Placed}
-use Rattle.checks.specs.Passed.{Gridded}
+use Rattle.rules.specs.Laws.Passed.{Placed, Gridded}
 
 -- a survey whose values stand in scratch, from place n on
 abbrev pub surveyAt : List ℕ → List ℕ → ℕ → List ℤ → Survey

@@ -16,7 +16,7 @@ use Rattle.rules.specs.Fit.{Shape, columns, rows, unitOf, Survey, pointCount, p
 use Rattle.rules.specs.Laws.Checks.{rangeCheck-size}
 use Rattle.rules.specs.Laws.Fit.{length-level, length-residuals}
 use Rattle.answers.specs.Cause.{okCheck}
-use Rattle.checks.specs.Passed.{Gridded}
+use Rattle.rules.specs.Laws.Passed.{Gridded}
 use Rattle.level_sums.specs.Gathered.{sumTable, Fittable}
 use Rattle.level_sums.specs.Pairs.{length-sums}
 use Rattle.level_values.specs.Values.{settledAt, SettledAll}

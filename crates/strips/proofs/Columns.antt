@@ -11,7 +11,7 @@ use lib.Seq.{getD-set-same, getD-set-other}
 use Rattle.machine.specs.Held.{read, itself}
 use Rattle.rules.specs.Rounding.{near}
 use Rattle.rules.specs.Surface.{denominator, weighted}
-use Rattle.checks.specs.Passed.{edge-fits}
+use Rattle.rules.specs.Laws.Passed.{edge-fits}
 use Rattle.basis.specs.Weighing.{numerators, weightSize, Weighable}
 use Rattle.basis.specs.Sums.{On, Based, on-grid, back, row-asked, row-is}
 use Rattle.basis.specs.declared.Basis.{Basis}

@@ -11,7 +11,7 @@ use Rattle.algebra.specs.Table.{tabulate, tabulate-same, laid}
 use Rattle.rules.specs.Rounding.{near}
 use Rattle.rules.specs.Surface.{denominator, cell}
 use Rattle.rules.specs.Laws.Basis.{cell-below, weighted-reads}
-use Rattle.checks.specs.Passed.{edge-fits}
+use Rattle.rules.specs.Laws.Passed.{edge-fits}
 use Rattle.basis.specs.Weighing.{Weighs, Located, numerators, weightSize}
 use Rattle.basis.specs.Sums.{On, Based, on-grid, placed, weight-most, row-within, height-is}
 use Rattle.basis.specs.declared.Basis.{Basis}

@@ -8,7 +8,7 @@ use Rattle.algebra.specs.Table.{tabulate, laid}
 use Rattle.rules.specs.Rounding.{near}
 use Rattle.rules.specs.Grid.{control}
 use Rattle.rules.specs.Surface.{denominator, cell, weighted, height}
-use Rattle.checks.specs.Passed.{Gridded}
+use Rattle.rules.specs.Laws.Passed.{Gridded}
 use Rattle.basis.specs.Weighing.{Grounded, numerators}
 use Rattle.basis.specs.Sums.{Based, back, rowHeight}
 use Rattle.basis.specs.declared.Basis.{Basis}

@@ -14,7 +14,8 @@ use Rattle.rules.specs.Calls.{heightCheck}
 use Rattle.rules.specs.Laws.Checks.{then-none, then-some, then-assoc}
 use Rattle.answers.specs.Cause.{check}
 use Rattle.checks.specs.Ready.{gridCheck, storedCheck}
-use Rattle.checks.specs.Passed.{Gridded, stored-passed, last-fits, exponent-check, refusal-check, tells-exponent, tells-refusal}
+use Rattle.rules.specs.Laws.Passed.{Gridded, last-fits}
+use Rattle.checks.specs.Passed.{stored-passed, exponent-check, refusal-check, tells-exponent, tells-refusal}
 use Rattle.heights.proofs.readable.Statement.{statement}
 use Rattle.heights.proofs.readable.Tie as tie
 

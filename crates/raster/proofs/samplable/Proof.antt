@@ -17,7 +17,8 @@ use Rattle.rules.specs.Calls.{Nodes, cellsCheck, unitCheck, latticeCheck, raste
 use Rattle.rules.specs.Laws.Checks.{then-none, then-some, then-assoc}
 use Rattle.answers.specs.Cause.{check}
 use Rattle.checks.specs.Ready.{gridCheck, storedCheck}
-use Rattle.checks.specs.Passed.{Gridded, stored-passed, last-fits, exponent-check, refusal-check, tells-exponent, tells-refusal}
+use Rattle.rules.specs.Laws.Passed.{Gridded, last-fits}
+use Rattle.checks.specs.Passed.{stored-passed, exponent-check, refusal-check, tells-exponent, tells-refusal}
 use Rattle.nodes.specs.Inside.{size-passed, nodes-inside}
 use Rattle.raster.proofs.samplable.Statement.{statement}
 use Rattle.raster.proofs.samplable.Tie as tie

@@ -1,5 +1,5 @@
 -- What checks that refuse nothing have shown: the bounds that a call goes on with.
-use Prim.Native.Nat.{ℕ, _*_, _≤_, _<_}
+use Prim.Native.Nat.{ℕ, _+_, _*_, _^_, _≤_, _<_}
 use mathlib.Core.Path.{_≡_, refl, sym, _∙_}
 use mathlib.Core.Bool.{_&&_}
 use mathlib.Core.Option.{none, some}
@@ -49,6 +49,33 @@ cellsAt-some m0 k m = mul-pos m (one-le-pow k 2 (omega arith))
 
 pub level-sides : (m0 n0 k : ℕ) → Sides 16 m0 n0 → k ≤ 5 → Sides 512 (cellsAt m0 k) (cellsAt n0 k)
 level-sides m0 n0 k c l = (cellsAt-some m0 k (c .0), cellsAt-most m0 k (c .1) l, cellsAt-some n0 k (c .2), cellsAt-most n0 k (c .3) l)
+
+-- ---- cells that heights can be read on and levels fitted to
+
+-- m by n cells of 2^e positions, as many and as wide as document 01 has them at most
+pub record Gridded (m n e : ℕ) : Type 0 where
+  pub m-some : 0 < m
+  pub m-most : m ≤ 512
+  pub n-some : 0 < n
+  pub n-most : n ≤ 512
+  pub e-most : e ≤ 9
+
+pub cells-gridded : {m n e : ℕ} → cellsCheck 512 m n ≡ none → e ≤ 9 → Gridded m n e
+cells-gridded {m} {n} c h = let p = cells-passed 512 m n c in record { m-some = p .0; m-most = p .1; n-some = p .2; n-most = p .3; e-most = h }
+
+-- so the products of these bounds fit the machine
+pub controls-fit : (m n : ℕ) → m ≤ 512 → n ≤ 512 → (m + 3) * (n + 3) ≤ 515 * 515
+controls-fit m n h k =
+    let a : m + 3 ≤ 515 = omega arith in
+    let b : n + 3 ≤ 515 = omega arith in
+    mul-le-mul a b
+
+pub edge-fits : (e m : ℕ) → e ≤ 9 → m ≤ 512 → 2 ^ e * m ≤ 512 * 512
+edge-fits e m h k = mul-le-mul (pow-mono {i = e} {j = 9} h) k
+
+-- the same of a unit that is known to be 2^e
+pub last-fits : {U : ℕ} (e m : ℕ) → U ≡ 2 ^ e → e ≤ 9 → m ≤ 512 → U * m ≤ 512 * 512
+last-fits e m u h k = rw u (edge-fits e m h k)
 
 -- ---- a lattice
 
