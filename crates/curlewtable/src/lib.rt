@@ -10,7 +10,7 @@ use fitting::LatticeFitted;
 use heights::Reading;
 use lattice_reader::LatticeRead;
 use lattice_writer::LatticeWritten;
-use point_reader::PointsRead;
+use point_records::PointsRead;
 use point_writer::PointsWritten;
 use raster::Sampled;
 use refinement::Refined;

@@ -1,13 +1,13 @@
--- Document 01's answer for each case of the reader's, and what its parts do: a run of values checked and read, and a whole lattice read.
+-- Document 01's answer for each case of the reader's, and what its parts do: a run of values read, and a whole lattice.
 use Prim.Native.Nat.{ℕ, _+_, _*_}
 use mathlib.Core.List.{List}
 use lib.IntN.{ℤ}
 use Rattle.algebra.specs.Table.{tabulate}
-use Rattle.rules.specs.Grid.{inRange, store}
+use Rattle.rules.specs.Grid.{store}
 use Rattle.rules.specs.Bytes.{valueAt}
 use Rattle.rules.specs.LatticeFile.{rowStart}
 use Rattle.rules.specs.Calls.{CellCounts}
-use Rattle.rules.specs.Answers.{Answer, accepted, refused, Check, require, field}
+use Rattle.rules.specs.Answers.{Answer, accepted, refused}
 use Rattle.answers.specs.Cause.{cause}
 use Rattle.lattice_reader.specs.declared.LatticeRead.{LatticeRead}
 use Rattle.lattice_reader.specs.declared.LatticeRead.the-variants.{Cells, Refused}
@@ -15,10 +15,6 @@ use Rattle.lattice_reader.specs.declared.LatticeRead.the-variants.{Cells
 abbrev pub told : LatticeRead → Answer CellCounts
 told (Cells m n) = accepted (record { m = m; n = n })
 told (Refused r) = refused (cause r)
-
--- value c of those from byte s on
-abbrev pub valueCheck : List ℕ → ℕ → ℕ → Check
-valueCheck file s c = require (inRange (valueAt file (s + 8 * c))) (field (s + 8 * c))
 
 -- k values from byte s on
 abbrev pub valuesFrom : List ℕ → ℕ → ℕ → List ℤ

@@ -8,7 +8,7 @@ ghost use Rattle.refused_line.specs.Wrote.{Wrote};
 ghost use Rattle.respond.specs.Taken.{Taken, answerText};
 use answers::Refusal;
 use fitting::LatticeFitted;
-use point_reader::PointsRead;
+use point_records::PointsRead;
 
 // "at most 7,008 bytes": a head and 500 points. "16 finest cells a side": 361 control values, and a file of 2,974 bytes.
 const MOST_BYTES: usize = 7_008;

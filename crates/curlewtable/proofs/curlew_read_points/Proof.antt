@@ -1,6 +1,6 @@
 -- `curlewtable::curlew_read_points` meets its contract: what it hands out is the answer of `point_reader::read_points`.
 use borrow.Author.Needs.{needs}
-use Rattle.point_reader.specs.Read.{told}
+use Rattle.point_records.specs.Read.{told}
 use Rattle.curlewtable.specs.Fields.{headerFields}
 use Rattle.curlewtable.proofs.Handed.{call-handed}
 use Rattle.curlewtable.proofs.curlew_read_points.Statement.{statement}

@@ -15,8 +15,8 @@ use Rattle.rules.specs.Fit.{Survey, survey}
 use Rattle.rules.specs.Answers.{Refusal, require, _then_, short, Answer, accepted, refused, answer, outcome}
 use Rattle.rules.specs.PointFile.{Header, pointStart, filePoints, fileX, fileY, fileZ, fileSurvey, pointFileCheck, readPointsCheck, overLists, readPointsCall}
 use Rattle.rules.specs.Laws.Checks.{required, then-rest, answer-none, answer-value, answer-refused, call-refused, call-accepted}
-use Rattle.point_reader.specs.declared.PointsRead.the-variants as variant
-use Rattle.point_reader.specs.Read.{told, header}
+use Rattle.point_records.specs.declared.PointsRead.the-variants as variant
+use Rattle.point_records.specs.Read.{told, header}
 use Rattle.point_reader.proofs.read_points.Statement.{statement}
 use Rattle.point_reader.proofs.read_points.Tie as tie
 

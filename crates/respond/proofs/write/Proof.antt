@@ -4,7 +4,7 @@ use native.Mathlib.Omega.{arith}
 use borrow.Author.Needs.{needs}
 use lib.Seq.{length-take-le}
 use Rattle.rules.specs.Fit.{shape, Survey, survey}
-use Rattle.point_reader.specs.Read.{told}
+use Rattle.point_records.specs.Read.{told}
 use Rattle.respond.proofs.Fitting.{written-as}
 use Rattle.respond.proofs.Reading.{too-long, refusal, ReadAs, read-as, points-fit, levels-most, too-wide, too-high, answer-is, taken}
 use Rattle.respond.proofs.write.Statement.{statement}

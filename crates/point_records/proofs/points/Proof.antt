@@ -1,4 +1,4 @@
--- `point_reader::points` meets its contract. The loop's invariant: no record before i is refused.
+-- `point_records::points` meets its contract. The loop's invariant: no record before i is refused.
 use mathlib.Core.Path.{_≡_, sym, ap, _∙_}
 use mathlib.Core.Option.{none}
 use Prim.Native.Nat.{ℕ, _-_, _≤_, _<_}
@@ -8,8 +8,8 @@ use borrow.Author.Count.{below-none, below-more}
 use Rattle.answers.specs.Cause.{check}
 use Rattle.rules.specs.PointFile.{fileShape, pointRecordCheck}
 use Rattle.rules.specs.Laws.Checks.{firstOf-all, firstOf-at}
-use Rattle.point_reader.proofs.points.Statement.{statement}
-use Rattle.point_reader.proofs.points.Tie as tie
+use Rattle.point_records.proofs.points.Statement.{statement}
+use Rattle.point_records.proofs.points.Tie as tie
 
 abbrev Inv-loop : tie.InvT-loop
 Inv-loop file right top p i₀ i = (i ≤ p) × ((k : ℕ) → k < i → pointRecordCheck (fileShape file) file k ≡ none)

@@ -1,4 +1,4 @@
--- `lattice_reader::head` meets its contract: the record, and then the two counts, each by the test that refused it or passed it.
+-- `lattice_records::head` meets its contract: the record, and then the two counts, each by the test that refused it or passed it.
 use mathlib.Core.Path.{_≡_, refl, sym, ap, _∙_}
 use mathlib.Core.List.{List}
 use mathlib.Core.Option.{none}
@@ -14,8 +14,8 @@ use Rattle.rules.specs.LatticeFile.{LH, fileM, fileN, latticeHeadCheck}
 use Rattle.rules.specs.Laws.Bytes.{record-fits}
 use Rattle.rules.specs.Laws.Checks.{then-none, then-some}
 use Rattle.answers.specs.Cause.{found}
-use Rattle.lattice_reader.proofs.head.Statement.{statement}
-use Rattle.lattice_reader.proofs.head.Tie as tie
+use Rattle.lattice_records.proofs.head.Statement.{statement}
+use Rattle.lattice_records.proofs.head.Tie as tie
 
 -- the check of the counts, after the record
 counts : (file : List ℕ) → recordCheck LH file 0 6 ≡ none

@@ -1,4 +1,4 @@
--- `lattice_reader::rows` meets its contract. The loop's invariant: no row passed is refused.
+-- `lattice_records::rows` meets its contract. The loop's invariant: no row passed is refused.
 use mathlib.Core.Path.{_≡_, refl, sym}
 use mathlib.Core.Option.{none}
 use Prim.Native.Nat.{_+_, _-_, _≤_}
@@ -8,8 +8,8 @@ use Rattle.rules.specs.Answers.{firstOf}
 use Rattle.rules.specs.LatticeFile.{rowCheck}
 use Rattle.rules.specs.Laws.Checks.{firstOf-at, firstOf-more}
 use Rattle.answers.specs.Cause.{found}
-use Rattle.lattice_reader.proofs.rows.Statement.{statement}
-use Rattle.lattice_reader.proofs.rows.Tie as tie
+use Rattle.lattice_records.proofs.rows.Statement.{statement}
+use Rattle.lattice_records.proofs.rows.Tie as tie
 
 abbrev Inv-loop : tie.InvT-loop
 Inv-loop file m n r₀ r = (r ≤ n + 3) × (firstOf r (rowCheck m file) ≡ none)

@@ -1,4 +1,4 @@
--- `point_reader::head` meets its contract: once its record stands, each field is a byte of the file, and each refusal is decided by the test that led to it.
+-- `point_records::head` meets its contract: once its record stands, each field is a byte of the file, and each refusal is decided by the test that led to it.
 use mathlib.Core.Path.{_≡_, refl, sym, ap, _∙_}
 use mathlib.Core.Bool.{true}
 use mathlib.Core.Option.{none}
@@ -15,9 +15,9 @@ use Rattle.rules.specs.Answers.{require, _then_, field}
 use Rattle.rules.specs.Bytes.{recordCheck}
 use Rattle.rules.specs.PointFile.{PH, fileShape, pointHeadCheck}
 use Rattle.rules.specs.Laws.Bytes.{record-fits}
-use Rattle.point_reader.specs.Records.{numberAt-one}
-use Rattle.point_reader.proofs.head.Statement.{statement}
-use Rattle.point_reader.proofs.head.Tie as tie
+use Rattle.point_records.specs.Records.{numberAt-one}
+use Rattle.point_records.proofs.head.Statement.{statement}
+use Rattle.point_records.proofs.head.Tie as tie
 
 -- the fields' checks, by the file's bytes
 fields : (file : List ℕ) → recordCheck PH file 0 8 ≡ none

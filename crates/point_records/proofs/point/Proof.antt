@@ -1,4 +1,4 @@
--- `point_reader::point` meets its contract: once its record stands, each refusal is decided by the test of the field that led to it.
+-- `point_records::point` meets its contract: once its record stands, each refusal is decided by the test of the field that led to it.
 use mathlib.Core.Path.{_≡_, refl, sym, ap, _∙_}
 use mathlib.Core.Bool.{true, false}
 use mathlib.Core.Option.{none, some}
@@ -15,10 +15,10 @@ use Rattle.rules.specs.Fit.{Shape}
 use Rattle.rules.specs.Answers.{require, _then_, field}
 use Rattle.rules.specs.Bytes.{numberAt, valueAt, recordCheck}
 use Rattle.rules.specs.PointFile.{PT, pointStart, fileX, fileY, fileZ, pointRecordCheck}
-use Rattle.point_reader.specs.Read.{lastX, lastY}
+use Rattle.point_records.specs.Read.{lastX, lastY}
 use Rattle.rules.specs.Laws.Bytes.{record-fits}
-use Rattle.point_reader.proofs.point.Statement.{statement}
-use Rattle.point_reader.proofs.point.Tie as tie
+use Rattle.point_records.proofs.point.Statement.{statement}
+use Rattle.point_records.proofs.point.Tie as tie
 
 module _ (a : Shape) (file : List ℕ) (i : ℕ) (stands : recordCheck PT file (8 + 14 * i) 14 ≡ none) where
   past-right : lastX a < numberAt 2 file (8 + 14 * i + 2) → pointRecordCheck a file i ≡ some (field (8 + 14 * i + 2))

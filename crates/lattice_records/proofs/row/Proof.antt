@@ -1,4 +1,4 @@
--- `lattice_reader::row` meets its contract: the record, its row number, and then its values.
+-- `lattice_records::row` meets its contract: the record, its row number, and then its values.
 use mathlib.Core.Path.{_≡_, refl, sym, _∙_}
 use mathlib.Core.List.{List}
 use mathlib.Core.Option.{none}
@@ -13,9 +13,9 @@ use Rattle.rules.specs.Laws.Bytes.{record-fits}
 use Rattle.rules.specs.Laws.Checks.{then-none, then-some}
 use Rattle.rules.specs.LatticeFile.{LR, rowLength, rowStart, rowCheck}
 use Rattle.answers.specs.Cause.{found}
-use Rattle.lattice_reader.specs.Read.{valueCheck}
-use Rattle.lattice_reader.proofs.row.Statement.{statement}
-use Rattle.lattice_reader.proofs.row.Tie as tie
+use Rattle.lattice_records.specs.Judged.{valueCheck}
+use Rattle.lattice_records.proofs.row.Statement.{statement}
+use Rattle.lattice_records.proofs.row.Tie as tie
 
 -- the check of row r, which starts at byte s; and what is left of it after the record, where the row number is k
 module _ (file : List ℕ) (m r s k : ℕ) (start : s ≡ rowStart m r) where

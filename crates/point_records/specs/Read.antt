@@ -5,8 +5,8 @@ use Rattle.rules.specs.Answers as rule
 use Rattle.rules.specs.Fit.{Shape, shape, columns, rows}
 use Rattle.rules.specs.PointFile as file
 use Rattle.answers.specs.Cause.{cause}
-use Rattle.point_reader.specs.declared.PointsRead.{PointsRead}
-use Rattle.point_reader.specs.declared.PointsRead.the-variants.{Header, Refused}
+use Rattle.point_records.specs.declared.PointsRead.{PointsRead}
+use Rattle.point_records.specs.declared.PointsRead.the-variants.{Header, Refused}
 
 abbrev pub told : PointsRead → rule.Answer file.Header
 told (Header r) = rule.accepted (record { shape = shape (r .m0) (r .n0) (r .h); points = r .points })

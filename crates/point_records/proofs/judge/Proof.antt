@@ -1,4 +1,4 @@
--- `point_reader::judge` meets its contract: the head, the records and the end are checked in the order of the rules.
+-- `point_records::judge` meets its contract: the head, the records and the end are checked in the order of the rules.
 use mathlib.Core.Path.{_≡_, sym, ap, _∙_}
 use mathlib.Core.Option.{none, some}
 use mathlib.Core.List.{List}
@@ -17,10 +17,10 @@ use Rattle.rules.specs.PointFile.{pointStart, fileShape, filePoints, pointHeadC
 use Rattle.rules.specs.Bytes.{numberAt}
 use Rattle.rules.specs.Laws.Passed.{cellsAt-most}
 use Rattle.survey.specs.Cells.{cellsAt-shifted}
-use Rattle.point_reader.specs.Read.{header}
-use Rattle.point_reader.specs.Records.{HeadBounds, numberAt-one, head-passed}
-use Rattle.point_reader.proofs.judge.Statement.{statement}
-use Rattle.point_reader.proofs.judge.Tie as tie
+use Rattle.point_records.specs.Read.{header}
+use Rattle.point_records.specs.Records.{HeadBounds, numberAt-one, head-passed}
+use Rattle.point_records.proofs.judge.Statement.{statement}
+use Rattle.point_records.proofs.judge.Tie as tie
 
 module _ (file : List ℕ) where
   at-head : (r : Refusal) → pointHeadCheck file ≡ some r → refused r ≡ answer (pointFileCheck file) (header file)

@@ -1,4 +1,4 @@
--- `lattice_reader::values` meets its contract. The loop's invariant: no value passed is refused.
+-- `lattice_records::values` meets its contract. The loop's invariant: no value passed is refused.
 use mathlib.Core.Path.{_≡_, refl, sym, ap, _∙_}
 use mathlib.Core.Bool.{Bool}
 use mathlib.Core.List.{List}
@@ -16,9 +16,9 @@ use Rattle.rules.specs.Grid.{inRange}
 use Rattle.rules.specs.Answers.{require, firstOf, field}
 use Rattle.rules.specs.Bytes.{valueAt}
 use Rattle.rules.specs.Laws.Checks.{firstOf-at, firstOf-more}
-use Rattle.lattice_reader.specs.Read.{valueCheck}
-use Rattle.lattice_reader.proofs.values.Statement.{statement}
-use Rattle.lattice_reader.proofs.values.Tie as tie
+use Rattle.lattice_records.specs.Judged.{valueCheck}
+use Rattle.lattice_records.proofs.values.Statement.{statement}
+use Rattle.lattice_records.proofs.values.Tie as tie
 
 abbrev Inv-loop : tie.InvT-loop
 Inv-loop file m s c₀ c = (c ≤ m + 3) × (firstOf c (valueCheck file s) ≡ none)

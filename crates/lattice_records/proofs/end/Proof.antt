@@ -1,4 +1,4 @@
--- `lattice_reader::end` meets its contract: the record, its count, and then that the file ends there.
+-- `lattice_records::end` meets its contract: the record, its count, and then that the file ends there.
 use mathlib.Core.Path.{_≡_, refl, sym, _∙_}
 use mathlib.Core.List.{List}
 use mathlib.Core.Option.{none}
@@ -14,8 +14,8 @@ use Rattle.rules.specs.Laws.Bytes.{record-fits}
 use Rattle.rules.specs.Laws.Checks.{then-none, then-some}
 use Rattle.rules.specs.LatticeFile.{LE, rowStart, endCheck}
 use Rattle.answers.specs.Cause.{found}
-use Rattle.lattice_reader.proofs.end.Statement.{statement}
-use Rattle.lattice_reader.proofs.end.Tie as tie
+use Rattle.lattice_records.proofs.end.Statement.{statement}
+use Rattle.lattice_records.proofs.end.Tie as tie
 
 -- the check of the end, which starts at byte s; and what is left of it after the record, where the count is k
 module _ (file : List ℕ) (m n s k : ℕ) (start : s ≡ rowStart m (n + 3)) where
