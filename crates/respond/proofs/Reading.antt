@@ -1,14 +1,15 @@
 -- What the program writes at each of its tests: too many bytes, a file that is refused, too many cells, and a survey that is taken.
-use mathlib.Core.Path.{_≡_, refl, sym, ap, _∙_}
+use mathlib.Core.Path.{_≡_, refl, sym, ap, subst, _∙_}
 use mathlib.Core.Bool.{Bool, true, false, _&&_}
 use mathlib.Core.Option.{none, some}
 use mathlib.Core.List.{List}
-use Prim.Native.Nat.{ℕ, _*_, _%_, _^_, _≤_, _<_}
+use Prim.Native.Nat.{ℕ, _≤_, _<_}
 use native.Mathlib.Omega.{arith}
 use borrow.Author.Tests.{le-leb, lt-leb}
-use lib.Dec.{leb, le→leb, eqb→eq}
+use lib.Dec.{T, leb, leb→le, le→leb, eqb→eq}
 use lib.ListN.{length, take}
 use lib.Seq.{take-at}
+use mir.Facts.{and-yes}
 use Rattle.algebra.specs.Table.{tabulate, over, length-tabulate}
 use Rattle.rules.specs.Fit.{Shape, columns, rows, Survey, survey, pointCount, levelsCheck}
 use Rattle.rules.specs.Answers.{Refusal, Check, require, _then_, short, Answer, accepted, refused, outcome}
@@ -17,11 +18,10 @@ use Rattle.rules.specs.Program.{refusedLine, programCheck, written, programOutp
 use Rattle.rules.specs.Laws.Bytes.{AreBytes}
 use Rattle.rules.specs.Laws.Checks.{required, require-met, then-rest, then-none, call-unrefused, call-value, call-after, call-refusal}
 use Rattle.rules.specs.Laws.PointFile.{Writable, read-writable}
-use Rattle.survey.specs.Cells.{cellsAt-shifted}
 use Rattle.respond.specs.Taken.{Taken, answerText}
 
 -- at most 16 finest cells a side
-few : Shape → Bool
+abbrev pub few : Shape → Bool
 few a = leb (columns a (a .h)) 16 && leb (rows a (a .h)) 16
 
 -- the first p points of three slices
@@ -44,7 +44,7 @@ module _ (file : List ℕ) where
 
   module _ (h : length file ≤ 7_008) where
     check-is : programCheck file ≡ (pointFileCheck file then require (few (fileShape file)) short then levelsCheck (fileShape file) (fileSurvey file))
-    unfolding programCheck few
+    unfolding programCheck
     check-is = then-none _ _ (require-met _ _ (le→leb (length file) 7_008 h))
 
     points-most : pointFileCheck file ≡ none → filePoints file ≤ 500
@@ -115,53 +115,28 @@ module _ {file : List ℕ} {a : Header} {got : Survey} (r : ReadAs file a got) w
   pub points-fit : a .points ≤ 500
   points-fit = omega (arith, r .count-is, points-most file (r .short) (r .passed))
 
-  across-most : a .shape .m0 ≤ 16
-  across-most = rw (← r .shape-is) (bounds .surveyed .sides .1)
+  -- what `few_cells` asks
+  pub shape-most : (a .shape .m0 ≤ 16) × (a .shape .n0 ≤ 16) × (a .shape .h ≤ 5)
+  shape-most = rw (← r .shape-is) (bounds .surveyed .sides .1, bounds .surveyed .sides .3, bounds .surveyed .levels-most)
 
-  up-most : a .shape .n0 ≤ 16
-  up-most = rw (← r .shape-is) (bounds .surveyed .sides .3)
-
-  pub levels-most : a .shape .h ≤ 5
-  levels-most = rw (← r .shape-is) (bounds .surveyed .levels-most)
-
-  columns-is : (a .shape .m0 * 2 ^ a .shape .h) % 2 ^ 64 ≡ columns (a .shape) (a .shape .h)
-  unfolding columns
-  columns-is = cellsAt-shifted (a .shape .m0) (a .shape .h) across-most levels-most
-
-  rows-is : (a .shape .n0 * 2 ^ a .shape .h) % 2 ^ 64 ≡ rows (a .shape) (a .shape .h)
-  unfolding rows
-  rows-is = cellsAt-shifted (a .shape .n0) (a .shape .h) up-most levels-most
-
-  -- too many cells, along x or along y
-  too-many : few (a .shape) ≡ false → refusedLine short ≡ programOutput file
+  pub too-many : few (a .shape) ≡ false → refusedLine short ≡ programOutput file
   unfolding programOutput written require _then_
   too-many l = rw (check-is file (r .short), r .passed, r .shape-is, l) refl
 
-  pub too-wide : 16 < (a .shape .m0 * 2 ^ a .shape .h) % 2 ^ 64 → refusedLine short ≡ programOutput file
-  unfolding few
-  too-wide l = too-many (rw (lt-leb (columns (a .shape) (a .shape .h)) 16 (rw columns-is at l)) refl)
+  -- a survey that is taken
+  module _ (fits : few (a .shape) ≡ true) where
+    sides : T (leb (columns (a .shape) (a .shape .h)) 16) × T (leb (rows (a .shape) (a .shape .h)) 16)
+    sides = and-yes (leb (columns (a .shape) (a .shape .h)) 16) (leb (rows (a .shape) (a .shape .h)) 16) (subst T (sym fits) tt)
 
-  module _ (narrow : (a .shape .m0 * 2 ^ a .shape .h) % 2 ^ 64 ≤ 16) where
-    narrow-is : leb (columns (a .shape) (a .shape .h)) 16 ≡ true
-    narrow-is = le-leb _ _ (rw columns-is at narrow)
+    pub answer-is : answerText (a .shape) (firstPoints (a .points) got) ≡ programOutput file
+    unfolding programOutput answerText written require _then_
+    answer-is = rw (r .points-are, check-is file (r .short), r .passed, r .shape-is, fits) refl
 
-    pub too-high : 16 < (a .shape .n0 * 2 ^ a .shape .h) % 2 ^ 64 → refusedLine short ≡ programOutput file
-    unfolding few
-    too-high l = too-many (rw (narrow-is, lt-leb (rows (a .shape) (a .shape .h)) 16 (rw rows-is at l)) refl)
-
-    -- a survey that is taken
-    module _ (low : (a .shape .n0 * 2 ^ a .shape .h) % 2 ^ 64 ≤ 16) where
-      pub answer-is : answerText (a .shape) (firstPoints (a .points) got) ≡ programOutput file
-      unfolding programOutput answerText written require few _then_
-      answer-is =
-          rw (r .points-are, check-is file (r .short), r .passed, r .shape-is, narrow-is, le-leb (rows (a .shape) (a .shape .h)) 16 (rw rows-is at low))
-          refl
-
-      pub taken : Taken (a .shape) (firstPoints (a .points) got)
-      unfolding fileSurvey
-      taken = record {
-        writable = rw (← r .shape-is, r .points-are) bounds;
-        across = rw columns-is at narrow;
-        up = rw rows-is at low;
-        few = omega (arith, ap (λ (s : Survey). pointCount s) (r .points-are), length-tabulate (filePoints file) (fileX file), points-most file (r .short) (r .passed));
-      }
+    pub taken : Taken (a .shape) (firstPoints (a .points) got)
+    unfolding fileSurvey
+    taken = record {
+      writable = rw (← r .shape-is, r .points-are) bounds;
+      across = leb→le _ 16 (sides .0);
+      up = leb→le _ 16 (sides .1);
+      few = omega (arith, ap (λ (s : Survey). pointCount s) (r .points-are), length-tabulate (filePoints file) (fileX file), points-most file (r .short) (r .passed));
+    }

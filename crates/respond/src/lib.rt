@@ -10,11 +10,6 @@ use answers::Refusal;
 use fitting::LatticeFitted;
 use point_records::PointsRead;
 
-// "at most 7,008 bytes": a head and 500 points. "16 finest cells a side": 361 control values, and a file of 2,974 bytes.
-const MOST_BYTES: usize = 7_008;
-
-const MOST_CELLS: usize = 16;
-
 // The lattice file of points that are taken, or the fit's refusal, at the start of output; answers its length.
 fn fit_and_write(
     m0: usize,
@@ -54,7 +49,7 @@ fn write(input: &[u8], output: &mut [u8]) -> usize
     requires { ⌜ 2_974 ≤ length (now output) ⌝ }
     ensures { λ r. ⌜ Wrote (programOutput (now (input .entry))) (now (output .entry)) r (now (output .exit)) ⌝ }
 {
-    if MOST_BYTES < input.len() {
+    if !limits::few_bytes(input.len()) {
         return refused_line::put_refused(Refusal::Short, output);
     }
     let mut xs = [0u16; 500];
@@ -67,10 +62,7 @@ fn write(input: &[u8], output: &mut [u8]) -> usize
             let n0 = a.n0;
             let h = a.h;
             let p = a.points;
-            if MOST_CELLS < m0 << h {
-                return refused_line::put_refused(Refusal::Short, output);
-            }
-            if MOST_CELLS < n0 << h {
+            if !limits::few_cells(m0, n0, h) {
                 return refused_line::put_refused(Refusal::Short, output);
             }
             fit_and_write(m0, n0, h, &xs[..p], &ys[..p], &zs[..p], output)

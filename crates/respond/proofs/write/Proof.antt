@@ -1,14 +1,21 @@
 -- `respond::write` meets its contract: each way out writes what the rules say at its test.
-use mathlib.Core.Path.{sym, ap}
+use mathlib.Core.Path.{_≡_, sym, ap, _∙_}
+use mathlib.Core.Bool.{true}
+use Prim.Native.Nat.{_≤_}
 use native.Mathlib.Omega.{arith}
 use borrow.Author.Needs.{needs}
+use borrow.Author.Tests.{leb-true, leb-false, not-true, not-false}
+use lib.ListN.{length}
 use lib.Seq.{length-take-le}
 use Rattle.rules.specs.Fit.{shape, Survey, survey}
 use Rattle.point_records.specs.Read.{told}
 use Rattle.respond.proofs.Fitting.{written-as}
-use Rattle.respond.proofs.Reading.{too-long, refusal, ReadAs, read-as, points-fit, levels-most, too-wide, too-high, answer-is, taken}
+use Rattle.respond.proofs.Reading.{few, too-long, refusal, ReadAs, read-as, points-fit, shape-most, too-many, answer-is, taken}
 use Rattle.respond.proofs.write.Statement.{statement}
 use Rattle.respond.proofs.write.Tie as tie
+
+few-bytes-requires : tie.Need-few-bytes-requires
+few-bytes-requires c κs = search needs
 
 put-refused-requires : tie.Need-put-refused-requires
 put-refused-requires c κs = search needs
@@ -19,7 +26,15 @@ same-length c = search needs
 returns : tie.Need-returns
 returns c =
     let put = c .before .before in
-    written-as (too-long _ (put .before .before .if1 .taken)) (put .put-refused .ensures)
+    let long = put .before .before in
+    written-as (too-long _ (leb-false _ _ (sym (long .before .few-bytes .ensures) ∙ not-true _ (long .if1 .taken)))) (put .put-refused .ensures)
+
+-- the input is not too long
+abbrev opened : tie.Else1 → tie.Start
+opened c = c .before .before .before .before
+
+short : (c : tie.Else1) → length (opened c .args .input .now) ≤ 7_008
+short c = leb-true _ _ (sym (c .before .few-bytes .ensures) ∙ not-false _ (c .if1 .left))
 
 slice-aggregate-read-points : tie.Need-slice-aggregate-read-points
 slice-aggregate-read-points c = search needs
@@ -48,18 +63,18 @@ got c = survey (c .read-points .last .1 .0) (c .read-points .last .1 .1 .0) (c .
 
 -- the reader has accepted the file
 read : (c : tie.After-a)
-    → ReadAs (c .before .before .before .before .before .before .before .before .before .before .before .before .args .input .now)
+    → ReadAs (opened (c .before .before .before .before .before .before .before .before .before) .args .input .now)
     (record { shape = shape (c .a .given .0 .0 .m0) (c .a .given .0 .0 .n0) (c .a .given .0 .0 .h); points = c .a .given .0 .0 .points })
     (got (c .before .before .before .before .before))
 read c =
     let reader = c .before .before .before .before .before in
     let zs = reader .before in
     let start = zs .before .before .before in
-    read-as _ (start .if1 .left) _ (slice-aggregate-read-points (zs .before .before)) (slice-aggregate-read-points-2 (zs .before)) (slice-aggregate-read-points-3 zs)
-    (reader .read-points .ensures) _ (ap told (c .a .given .1)) (λ i. start .before .before .shared-slice-known .given i .fits)
+    read-as _ (short start) _ (slice-aggregate-read-points (zs .before .before)) (slice-aggregate-read-points-2 (zs .before)) (slice-aggregate-read-points-3 zs)
+    (reader .read-points .ensures) _ (ap told (c .a .given .1)) (λ i. start .before .before .before .shared-slice-known .given i .fits)
 
-shl-if2 : tie.Need-shl-if2
-shl-if2 c = omega (arith, levels-most (read (c .before)))
+few-cells-requires : tie.Need-few-cells-requires
+few-cells-requires c κs = shape-most (read (c .before))
 
 put-refused-requires-3 : tie.Need-put-refused-requires-3
 put-refused-requires-3 c κs = search needs
@@ -70,24 +85,13 @@ same-length-2 c = search needs
 returns-2 : tie.Need-returns-2
 returns-2 c =
     let put = c .before .before in
-    let then = put .before .before in
-    written-as (too-wide (read (then .before .before)) (then .if2 .taken)) (put .put-refused3 .ensures)
+    let many = put .before .before in
+    let told = many .before in
+    written-as (too-many (read (told .before .before)) (sym (told .few-cells .ensures) ∙ not-true _ (many .if2 .taken))) (put .put-refused3 .ensures)
 
-shl-if3 : tie.Need-shl-if3
-shl-if3 c = omega (arith, levels-most (read (c .before .before)))
-
-put-refused-requires-4 : tie.Need-put-refused-requires-4
-put-refused-requires-4 c κs = search needs
-
-same-length-3 : tie.Need-same-length-3
-same-length-3 c = search needs
-
-returns-3 : tie.Need-returns-3
-returns-3 c =
-    let put = c .before .before in
-    let then = put .before .before in
-    let wide = then .before in
-    written-as (too-high (read (wide .before .before)) (wide .if2 .left) (then .if3 .taken)) (put .put-refused4 .ensures)
+-- nor has it too many cells
+fits : (c : tie.Else2) → few (shape (c .before .before .before .a .given .0 .0 .m0) (c .before .before .before .a .given .0 .0 .n0) (c .before .before .before .a .given .0 .0 .h)) ≡ true
+fits c = sym (c .before .few-cells .ensures) ∙ not-false _ (c .if2 .left)
 
 array-share-prefix-xs : tie.Need-array-share-prefix-xs
 array-share-prefix-xs c =
@@ -115,11 +119,24 @@ slice-aggregate-fit-and-write-3 c = sym (length-take-le _ _ (array-share-prefix-
 
 fit-and-write-requires : tie.Need-fit-and-write-requires
 fit-and-write-requires c κs =
-    let high = c .before .before .before .before in
-    let wide = high .before in
-    let a = wide .before .before in
-    let start = a .before .before .before .before .before .before .before .before .before .before .before .before in
-    (taken (read a) (wide .if2 .left) (high .if3 .left), start .pre)
+    let narrow = c .before .before .before .before in
+    let a = narrow .before .before .before in
+    (taken (read a) (fits narrow), opened (a .before .before .before .before .before .before .before .before .before) .pre)
+
+same-length-3 : tie.Need-same-length-3
+same-length-3 c = search needs
+
+returns-3 : tie.Need-returns-3
+returns-3 c =
+    let put = c .before .before in
+    let matched = put .before .before .before in
+    let reader = matched .before .before .before .before .before in
+    let zs = reader .before in
+    let start = zs .before .before .before in
+    written-as
+    (refusal _ (short start) _ (slice-aggregate-read-points (zs .before .before)) (slice-aggregate-read-points-2 (zs .before)) (slice-aggregate-read-points-3 zs)
+    (reader .read-points .ensures) _ (ap told (matched .r .given .1)))
+    (put .put-refused2 .ensures)
 
 same-length-4 : tie.Need-same-length-4
 same-length-4 c = search needs
@@ -127,29 +144,14 @@ same-length-4 c = search needs
 returns-4 : tie.Need-returns-4
 returns-4 c =
     let put = c .before .before in
-    let matched = put .before .before .before in
-    let reader = matched .before .before .before .before .before in
-    let zs = reader .before in
-    let start = zs .before .before .before in
-    written-as
-    (refusal _ (start .if1 .left) _ (slice-aggregate-read-points (zs .before .before)) (slice-aggregate-read-points-2 (zs .before)) (slice-aggregate-read-points-3 zs)
-    (reader .read-points .ensures) _ (ap told (matched .r .given .1)))
-    (put .put-refused2 .ensures)
-
-same-length-5 : tie.Need-same-length-5
-same-length-5 c = search needs
-
-returns-5 : tie.Need-returns-5
-returns-5 c =
-    let put = c .before .before in
-    let high = put .before .before .before .before .before in
-    let wide = high .before in
-    written-as (answer-is (read (wide .before .before)) (wide .if2 .left) (high .if3 .left)) (put .fit-and-write .ensures)
+    let narrow = put .before .before .before .before .before in
+    written-as (answer-is (read (narrow .before .before .before)) (fits narrow)) (put .fit-and-write .ensures)
 
 pub write-spec : {M : Type 1} → statement M
 write-spec =
     tie.close
     (tie.spec
+    few-bytes-requires
     put-refused-requires
     same-length
     returns
@@ -160,14 +162,10 @@ write-spec =
     enum-known-r
     put-refused-requires-2
     enum-known-a
-    shl-if2
+    few-cells-requires
     put-refused-requires-3
     same-length-2
     returns-2
-    shl-if3
-    put-refused-requires-4
-    same-length-3
-    returns-3
     array-share-prefix-xs
     slice-aggregate-fit-and-write
     array-share-prefix-ys
@@ -175,7 +173,7 @@ write-spec =
     array-share-prefix-zs
     slice-aggregate-fit-and-write-3
     fit-and-write-requires
+    same-length-3
+    returns-3
     same-length-4
-    returns-4
-    same-length-5
-    returns-5)
+    returns-4)

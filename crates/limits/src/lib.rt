@@ -1,0 +1,28 @@
+// What the program takes: "at most 7,008 bytes and 16 finest cells a side".
+ghost use mathlib.Core.Path.{_≡_};
+ghost use mathlib.Core.Bool.{_&&_};
+ghost use Prim.Native.Nat.{_≤_};
+ghost use lib.Dec.{leb};
+ghost use Rattle.rules.specs.Fit.{shape, columns, rows};
+
+// A head and 500 points.
+const MOST_BYTES: usize = 7_008;
+
+// 361 control values, and a file of 2,974 bytes.
+const MOST_CELLS: usize = 16;
+
+pub fn few_bytes(len: usize) -> bool
+    ensures { λ r. ⌜ r ≡ leb len 7_008 ⌝ }
+{
+    len <= MOST_BYTES
+}
+
+pub fn few_cells(m0: usize, n0: usize, h: usize) -> bool
+    requires { ⌜ (m0 ≤ 16) × (n0 ≤ 16) × (h ≤ 5) ⌝ }
+    ensures { λ r. ⌜ r ≡ (leb (columns (shape m0 n0 h) h) 16 && leb (rows (shape m0 n0 h) h) 16) ⌝ }
+{
+    if MOST_CELLS < m0 << h {
+        return false;
+    }
+    n0 << h <= MOST_CELLS
+}
