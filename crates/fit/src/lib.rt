@@ -72,7 +72,7 @@ pub fn fit(
     ) {
         return LatticeFitted::Refused(r);
     }
-    if let Verdict::Refused(r) = survey::points(m, n, xs, ys, zs) {
+    if let Verdict::Refused(r) = point_checks::points(m, n, xs, ys, zs) {
         return LatticeFitted::Refused(r);
     }
     let answer = fitting::run(

@@ -73,7 +73,7 @@ pub fn write_points(
     if output.len() < 8 + 14 * p {
         return PointsWritten::Refused(Refusal::Short);
     }
-    if let Verdict::Refused(r) = survey::points(m0 << h, n0 << h, xs, ys, zs) {
+    if let Verdict::Refused(r) = point_checks::points(m0 << h, n0 << h, xs, ys, zs) {
         return PointsWritten::Refused(r);
     }
     put_head(m0, n0, h, p, output);

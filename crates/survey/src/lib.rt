@@ -1,9 +1,7 @@
-// The checks of a survey that the fit and the point writer share: cell counts, levels, lists, and each point's position and height.
+// The checks of a survey as a whole, which the fit and the point writer share: cell counts, levels and lists.
 ghost use mathlib.Core.Path.{_≡_};
-ghost use Prim.Native.Nat.{_≤_};
-ghost use lib.ListN.{length};
 ghost use Rattle.rules.specs.Fit.{shape, survey};
-ghost use Rattle.rules.specs.Calls.{surveyCheck, pointsCheck};
+ghost use Rattle.rules.specs.Calls.{surveyCheck};
 ghost use Rattle.answers.specs.Cause.{check};
 use answers::Refusal;
 use answers::Verdict;
@@ -26,29 +24,6 @@ pub fn head(m0: usize, n0: usize, h: usize, xs: &[u16], ys: &[u16], zs: &[i64]) 
     }
     if 65_535 < xs.len() {
         return Verdict::Refused(Refusal::Lists);
-    }
-    Verdict::Fine
-}
-
-// 5 before 6 in a point, points in list order; right and top are the last positions of m by n cells of 16.
-pub fn points(m: usize, n: usize, xs: &[u16], ys: &[u16], zs: &[i64]) -> Verdict
-    requires { ⌜ (m ≤ 512) × (n ≤ 512) × (length (now ys) ≡ length (now xs)) × (length (now zs) ≡ length (now xs)) ⌝ }
-    ensures { λ r. ⌜ check r ≡ pointsCheck 16 m n (survey (now (xs .entry)) (now (ys .entry)) (now (zs .entry))) ⌝ }
-{
-    let right = 16 * m;
-    let top = 16 * n;
-    let mut i = 0;
-    while i < xs.len() {
-        if right < xs[i] as usize {
-            return Verdict::Refused(Refusal::Position(i));
-        }
-        if top < ys[i] as usize {
-            return Verdict::Refused(Refusal::Position(i));
-        }
-        if !range::in_range(zs[i]) {
-            return Verdict::Refused(Refusal::Range(i));
-        }
-        i += 1;
     }
     Verdict::Fine
 }

@@ -1,4 +1,4 @@
--- `survey::points` meets its contract. The loop's invariant: no point before i is refused.
+-- `point_checks::points` meets its contract. The loop's invariant: no point before i is refused.
 use mathlib.Core.Path.{_≡_, sym, ap, _∙_}
 use mathlib.Core.Bool.{true, false}
 use mathlib.Core.Option.{none, some}
@@ -15,8 +15,8 @@ use Rattle.rules.specs.Fit.{Survey, survey, pointCount, pointAt}
 use Rattle.rules.specs.Answers.{Refusal, Check, position, range, require, _then_}
 use Rattle.rules.specs.Calls.{pointCheck, pointsCheck}
 use Rattle.rules.specs.Laws.Checks.{firstOf-all, firstOf-at}
-use Rattle.survey.proofs.points.Statement.{statement}
-use Rattle.survey.proofs.points.Tie as tie
+use Rattle.point_checks.proofs.points.Statement.{statement}
+use Rattle.point_checks.proofs.points.Tie as tie
 
 abbrev Inv-loop : tie.InvT-loop
 Inv-loop m n xs ys zs right top i₀ i = (i ≤ length xs) × ((k : ℕ) → k < i → pointCheck 16 m n k (pointAt (survey xs ys zs) k) ≡ none)
