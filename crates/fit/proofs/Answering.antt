@@ -1,4 +1,4 @@
--- What the fit answers and leaves: a refusal before the levels is the rules' and leaves all as it was; what the levels leave, cleared, is the rules'.
+-- What the fit answers and leaves: a refusal before the levels is the rules' and leaves all as it was; what `run` leaves, cleared, is the rules'.
 use mathlib.Core.Path.{_≡_, refl, sym, ap, subst, _∙_}
 use mathlib.Core.Bool.{false, _&&_}
 use mathlib.Core.Option.{none, some}

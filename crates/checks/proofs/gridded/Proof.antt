@@ -4,9 +4,9 @@ use mathlib.Core.Option.{none}
 use borrow.Author.Needs.{needs}
 use Rattle.rules.specs.Calls.{cellsCheck}
 use Rattle.rules.specs.Laws.Checks.{then-some, then-none}
+use Rattle.rules.specs.Laws.Passed.{cells-gridded}
 use Rattle.answers.specs.Cause.{check}
 use Rattle.checks.specs.Ready.{gridCheck}
-use Rattle.rules.specs.Laws.Passed.{cells-gridded}
 use Rattle.checks.specs.Passed.{tells-refusal}
 use Rattle.checks.proofs.gridded.Statement.{statement}
 use Rattle.checks.proofs.gridded.Tie as tie

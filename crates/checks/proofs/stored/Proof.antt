@@ -5,8 +5,8 @@ use borrow.Author.Needs.{needs}
 use borrow.Author.Tests.{lt-leb, le-leb}
 use Rattle.rules.specs.Grid.{controls}
 use Rattle.rules.specs.Answers.{require, _then_}
-use Rattle.checks.specs.Ready.{storedCheck}
 use Rattle.rules.specs.Laws.Passed.{controls-fit}
+use Rattle.checks.specs.Ready.{storedCheck}
 use Rattle.checks.proofs.stored.Statement.{statement}
 use Rattle.checks.proofs.stored.Tie as tie
 

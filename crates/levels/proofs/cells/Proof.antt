@@ -1,6 +1,6 @@
 -- `levels::cells` meets its contract: the shift loses no bits.
 use borrow.Author.Needs.{needs}
-use Rattle.survey.specs.Cells.{cellsAt-shifted}
+use Rattle.rules.specs.Laws.Passed.{cellsAt-shifted}
 use Rattle.levels.proofs.cells.Statement.{statement}
 use Rattle.levels.proofs.cells.Tie as tie
 

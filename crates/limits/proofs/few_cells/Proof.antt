@@ -5,7 +5,7 @@ use borrow.Author.Needs.{needs}
 use borrow.Author.Tests.{lt-leb, le-leb}
 use lib.Dec.{leb}
 use Rattle.rules.specs.Fit.{Shape, shape, columns, rows}
-use Rattle.survey.specs.Cells.{cellsAt-shifted}
+use Rattle.rules.specs.Laws.Passed.{cellsAt-shifted}
 use Rattle.limits.proofs.few_cells.Statement.{statement}
 use Rattle.limits.proofs.few_cells.Tie as tie
 

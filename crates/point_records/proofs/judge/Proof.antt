@@ -15,8 +15,7 @@ use Rattle.rules.specs.Fit.{shape, columns, rows}
 use Rattle.rules.specs.Answers.{Refusal, require, _then_, firstOf, trailing, accepted, refused, answer}
 use Rattle.rules.specs.PointFile.{pointStart, fileShape, filePoints, pointHeadCheck, pointRecordCheck, pointFileCheck}
 use Rattle.rules.specs.Bytes.{numberAt}
-use Rattle.rules.specs.Laws.Passed.{cellsAt-most}
-use Rattle.survey.specs.Cells.{cellsAt-shifted}
+use Rattle.rules.specs.Laws.Passed.{cellsAt-most, cellsAt-shifted}
 use Rattle.point_records.specs.Read.{header}
 use Rattle.point_records.specs.Records.{HeadBounds, numberAt-one, head-passed}
 use Rattle.point_records.proofs.judge.Statement.{statement}

@@ -15,9 +15,8 @@ use Rattle.rules.specs.Bytes.{bytesOf}
 use Rattle.rules.specs.Calls.{surveyCheck, pointsCheck}
 use Rattle.rules.specs.PointFile.{PH, pointFile, pointStart, pointFileLength, writePointsCheck, writePointsCall}
 use Rattle.rules.specs.Laws.Checks.{call-refused, call-accepted}
-use Rattle.rules.specs.Laws.Passed.{cellsAt-most, Surveyed, survey-passed}
+use Rattle.rules.specs.Laws.Passed.{cellsAt-most, Surveyed, survey-passed, cellsAt-shifted}
 use Rattle.rules.specs.Laws.PointFile.{recordOf}
-use Rattle.survey.specs.Cells.{cellsAt-shifted}
 use Rattle.point_writer.specs.Written.{headBytes}
 use Rattle.point_writer.proofs.write_points.Statement.{statement}
 use Rattle.point_writer.proofs.write_points.Tie as tie

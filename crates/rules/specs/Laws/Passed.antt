@@ -1,12 +1,12 @@
 -- What checks that refuse nothing have shown: the bounds that a call goes on with.
-use Prim.Native.Nat.{ℕ, _+_, _*_, _^_, _≤_, _<_}
+use Prim.Native.Nat.{ℕ, _+_, _*_, _%_, _^_, _≤_, _<_}
 use mathlib.Core.Path.{_≡_, refl, sym, _∙_}
 use mathlib.Core.Bool.{_&&_}
 use mathlib.Core.Option.{none, some}
 use mathlib.Core.List.{List}
-use native.Mathlib.Nat.{mul-pos, mul-le-mul, one-le-pow}
+use native.Mathlib.Nat.{lt-of-le-of-lt, mod-eq-of-lt, mul-pos, mul-le-mul, one-le-pow}
 use native.Mathlib.Omega.{arith}
-use lib.Dec.{T, leb, eqb, leb→le, le→leb, eqb→eq, eqb-refl}
+use lib.Dec.{T, lit<, leb, eqb, leb→le, le→leb, eqb→eq, eqb-refl}
 use lib.IntN.{ℤ, natAbs}
 use lib.ListN.{length}
 use lib.Pow.{pow-mono}
@@ -42,6 +42,11 @@ sides-pass most m n c =
 pub cellsAt-most : (m0 k : ℕ) → m0 ≤ 16 → k ≤ 5 → cellsAt m0 k ≤ 512
 unfolding cellsAt
 cellsAt-most m0 k m l = mul-le-mul m (pow-mono l)
+
+-- so where code shifts to the left it loses nothing of them
+pub cellsAt-shifted : (m0 k : ℕ) → m0 ≤ 16 → k ≤ 5 → (m0 * 2 ^ k) % 2 ^ 64 ≡ cellsAt m0 k
+unfolding cellsAt
+cellsAt-shifted m0 k m l = mod-eq-of-lt (lt-of-le-of-lt (cellsAt-most m0 k m l) (lit< tt))
 
 pub cellsAt-some : (m0 k : ℕ) → 1 ≤ m0 → 1 ≤ cellsAt m0 k
 unfolding cellsAt
