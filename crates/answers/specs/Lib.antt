@@ -1,1 +1,3 @@
 pub mod Cause
+pub mod CellsTold
+pub mod CountTold

@@ -28,6 +28,18 @@ pub enum Verdict {
     Refused(Refusal),
 }
 
+// What a call answers that returns cell counts.
+pub enum CellsTold {
+    Cells(usize, usize),
+    Refused(Refusal),
+}
+
+// What a call answers that returns how many nodes or bytes it wrote.
+pub enum CountTold {
+    Count(usize),
+    Refused(Refusal),
+}
+
 pub fn number(r: Refusal) -> usize
     ensures { λ n. ⌜ n ≡ rule.number (cause r) ⌝ }
 {

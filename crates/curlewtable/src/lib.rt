@@ -5,47 +5,11 @@ ghost use Rattle.rules.specs.Calls as calls;
 ghost use Rattle.rules.specs.Demand3.{CloseEverywhere};
 ghost use Rattle.rules.specs.LatticeFile as latticeFile;
 ghost use Rattle.rules.specs.PointFile as pointFile;
-ghost use Rattle.curlewtable.specs.Fields.{handed, inFields, cellsFields, heightFields, countFields, headerFields};
-use fitting::LatticeFitted;
-use heights::Reading;
-use lattice_reader::LatticeRead;
-use lattice_writer::LatticeWritten;
-use point_records::PointsRead;
-use point_writer::PointsWritten;
-use raster::Sampled;
-use refinement::Refined;
-
-#[repr(C)]
-pub struct CellsAnswer {
-    pub number: usize,
-    pub place: usize,
-    pub m: usize,
-    pub n: usize,
-}
-
-#[repr(C)]
-pub struct HeightAnswer {
-    pub number: usize,
-    pub place: usize,
-    pub height: i64,
-}
-
-#[repr(C)]
-pub struct CountAnswer {
-    pub number: usize,
-    pub place: usize,
-    pub count: usize,
-}
-
-#[repr(C)]
-pub struct HeaderAnswer {
-    pub number: usize,
-    pub place: usize,
-    pub m0: usize,
-    pub n0: usize,
-    pub h: usize,
-    pub points: usize,
-}
+ghost use Rattle.fields.specs.Fields.{handed, inFields, cellsFields, heightFields, countFields, headerFields};
+use fields::CellsAnswer;
+use fields::CountAnswer;
+use fields::HeaderAnswer;
+use fields::HeightAnswer;
 
 #[no_mangle]
 pub extern "C" fn curlew_fit(
@@ -63,20 +27,7 @@ pub extern "C" fn curlew_fit(
     ensures { λ r. ⌜ handed r (calls.lent (now (lattice .exit)) (now (residual .exit)) (now (whole .exit)) (now (floats .exit))) ≡ inFields cellsFields (calls.fitCall (shape m0 n0 h) (survey (now (x .entry)) (now (y .entry)) (now (z .entry))) (calls.lent (now (lattice .entry)) (now (residual .entry)) (now (whole .entry)) (now (floats .entry)))) ⌝ }
     ensures { λ r. ⌜ (r .number ≡ 0 → CloseEverywhere (shape m0 n0 h) (survey (now (x .entry)) (now (y .entry)) (now (z .entry))) (record { m = r .m; n = r .n }) (now (lattice .exit))) ⌝ }
 {
-    match fit::fit(m0, n0, h, x, y, z, lattice, residual, whole, floats) {
-        LatticeFitted::Cells(m, n) => CellsAnswer {
-            number: 0,
-            place: 0,
-            m,
-            n,
-        },
-        LatticeFitted::Refused(r) => CellsAnswer {
-            number: answers::number(r),
-            place: answers::place(r),
-            m: 0,
-            n: 0,
-        },
-    }
+    fields::cells(fit::fit(m0, n0, h, x, y, z, lattice, residual, whole, floats))
 }
 
 #[no_mangle]
@@ -90,18 +41,7 @@ pub extern "C" fn curlew_height_at(
 ) -> HeightAnswer
     ensures { λ r. ⌜ r ≡ heightFields (calls.heightAnswer m n unit (now (lattice .entry)) x y) ⌝ }
 {
-    match heights::height(m, n, unit, lattice, x, y) {
-        Reading::Height(z) => HeightAnswer {
-            number: 0,
-            place: 0,
-            height: z,
-        },
-        Reading::Refused(r) => HeightAnswer {
-            number: answers::number(r),
-            place: answers::place(r),
-            height: 0,
-        },
-    }
+    fields::height(heights::height(m, n, unit, lattice, x, y))
 }
 
 #[no_mangle]
@@ -113,20 +53,7 @@ pub extern "C" fn curlew_refine(
 ) -> CellsAnswer
     ensures { λ r. ⌜ handed r (now (output .exit)) ≡ inFields cellsFields (calls.refineCall m n (now (lattice .entry)) (now (output .entry))) ⌝ }
 {
-    match refinement::refine(m, n, lattice, output) {
-        Refined::Cells(m2, n2) => CellsAnswer {
-            number: 0,
-            place: 0,
-            m: m2,
-            n: n2,
-        },
-        Refined::Refused(r) => CellsAnswer {
-            number: answers::number(r),
-            place: answers::place(r),
-            m: 0,
-            n: 0,
-        },
-    }
+    fields::cells(refinement::refine(m, n, lattice, output))
 }
 
 #[no_mangle]
@@ -144,38 +71,14 @@ pub extern "C" fn curlew_raster(
 ) -> CountAnswer
     ensures { λ r. ⌜ handed r (now (output .exit)) ≡ inFields countFields (calls.rasterCall m n unit (now (lattice .entry)) (calls.nodes x0 y0 step columns rows) (now (output .entry))) ⌝ }
 {
-    match raster::raster(m, n, unit, lattice, x0, y0, step, columns, rows, output) {
-        Sampled::Nodes(q) => CountAnswer {
-            number: 0,
-            place: 0,
-            count: q,
-        },
-        Sampled::Refused(r) => CountAnswer {
-            number: answers::number(r),
-            place: answers::place(r),
-            count: 0,
-        },
-    }
+    fields::count(raster::raster(m, n, unit, lattice, x0, y0, step, columns, rows, output))
 }
 
 #[no_mangle]
 pub extern "C" fn curlew_read_lattice(file: &[u8], output: &mut [i64]) -> CellsAnswer
     ensures { λ r. ⌜ handed r (now (output .exit)) ≡ inFields cellsFields (latticeFile.readLatticeCall (now (file .entry)) (now (output .entry))) ⌝ }
 {
-    match lattice_reader::read_lattice(file, output) {
-        LatticeRead::Cells(m, n) => CellsAnswer {
-            number: 0,
-            place: 0,
-            m,
-            n,
-        },
-        LatticeRead::Refused(r) => CellsAnswer {
-            number: answers::number(r),
-            place: answers::place(r),
-            m: 0,
-            n: 0,
-        },
-    }
+    fields::cells(lattice_reader::read_lattice(file, output))
 }
 
 #[no_mangle]
@@ -187,18 +90,7 @@ pub extern "C" fn curlew_write_lattice(
 ) -> CountAnswer
     ensures { λ r. ⌜ handed r (now (output .exit)) ≡ inFields countFields (latticeFile.writeLatticeCall m n (now (lattice .entry)) (now (output .entry))) ⌝ }
 {
-    match lattice_writer::write_lattice(m, n, lattice, output) {
-        LatticeWritten::Bytes(b) => CountAnswer {
-            number: 0,
-            place: 0,
-            count: b,
-        },
-        LatticeWritten::Refused(r) => CountAnswer {
-            number: answers::number(r),
-            place: answers::place(r),
-            count: 0,
-        },
-    }
+    fields::count(lattice_writer::write_lattice(m, n, lattice, output))
 }
 
 #[no_mangle]
@@ -210,24 +102,7 @@ pub extern "C" fn curlew_read_points(
 ) -> HeaderAnswer
     ensures { λ r. ⌜ handed r (survey (now (x .exit)) (now (y .exit)) (now (z .exit))) ≡ inFields headerFields (pointFile.readPointsCall (now (file .entry)) (survey (now (x .entry)) (now (y .entry)) (now (z .entry)))) ⌝ }
 {
-    match point_reader::read_points(file, x, y, z) {
-        PointsRead::Header(a) => HeaderAnswer {
-            number: 0,
-            place: 0,
-            m0: a.m0,
-            n0: a.n0,
-            h: a.h,
-            points: a.points,
-        },
-        PointsRead::Refused(r) => HeaderAnswer {
-            number: answers::number(r),
-            place: answers::place(r),
-            m0: 0,
-            n0: 0,
-            h: 0,
-            points: 0,
-        },
-    }
+    fields::header(point_reader::read_points(file, x, y, z))
 }
 
 #[no_mangle]
@@ -242,16 +117,5 @@ pub extern "C" fn curlew_write_points(
 ) -> CountAnswer
     ensures { λ r. ⌜ handed r (now (output .exit)) ≡ inFields countFields (pointFile.writePointsCall (shape m0 n0 h) (survey (now (x .entry)) (now (y .entry)) (now (z .entry))) (now (output .entry))) ⌝ }
 {
-    match point_writer::write_points(m0, n0, h, x, y, z, output) {
-        PointsWritten::Bytes(b) => CountAnswer {
-            number: 0,
-            place: 0,
-            count: b,
-        },
-        PointsWritten::Refused(r) => CountAnswer {
-            number: answers::number(r),
-            place: answers::place(r),
-            count: 0,
-        },
-    }
+    fields::count(point_writer::write_points(m0, n0, h, x, y, z, output))
 }

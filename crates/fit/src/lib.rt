@@ -1,43 +1,14 @@
 // The whole fit: from points to one lattice, behind document 01's checks, in slices that the caller lends.
 // Lattice and residuals are written once, at the end, so that a refusal leaves them as they were; then the scratch is cleared.
 ghost use mathlib.Core.Path.{_≡_};
-ghost use Prim.Native.Nat.{_≤_};
 ghost use Rattle.rules.specs.Answers.{outcome};
 ghost use Rattle.rules.specs.Fit.{shape, survey};
-ghost use Rattle.rules.specs.Calls.{lent, roomCheck, fitCall};
+ghost use Rattle.rules.specs.Calls.{lent, fitCall};
 ghost use Rattle.rules.specs.Demand3.{Demand3};
-ghost use Rattle.answers.specs.Cause.{check};
-ghost use Rattle.fitting.specs.LatticeFitted.{told};
+ghost use Rattle.answers.specs.CellsTold.{told};
+use answers::CellsTold;
 use answers::Refusal;
 use answers::Verdict;
-use fitting::LatticeFitted;
-
-// 4: "For p points the caller lends at least: lattice K, residuals p, whole scratch 3K+p, f64 scratch 2K".
-fn room(
-    most: usize,
-    p: usize,
-    lattice: usize,
-    residual: usize,
-    whole: usize,
-    floats: usize,
-) -> Verdict
-    requires { ⌜ (most ≤ 265_225) × (p ≤ 65_535) ⌝ }
-    ensures { λ r. ⌜ check r ≡ roomCheck most p lattice residual whole floats ⌝ }
-{
-    if lattice < most {
-        return Verdict::Refused(Refusal::Short);
-    }
-    if residual < p {
-        return Verdict::Refused(Refusal::Short);
-    }
-    if whole < 3 * most + p {
-        return Verdict::Refused(Refusal::Short);
-    }
-    if floats < 2 * most {
-        return Verdict::Refused(Refusal::Short);
-    }
-    Verdict::Fine
-}
 
 // A fit, behind document 01's checks in their order. After them the scratch is used, and cleared whatever the levels answer.
 pub fn fit(
@@ -51,18 +22,18 @@ pub fn fit(
     residual: &mut [i64],
     whole: &mut [i64],
     floats: &mut [f64],
-) -> LatticeFitted
+) -> CellsTold
     ensures { λ r. ⌜ outcome (told r) (lent (now (lattice .exit)) (now (residual .exit)) (now (whole .exit)) (now (floats .exit))) ≡ fitCall (shape m0 n0 h) (survey (now (xs .entry)) (now (ys .entry)) (now (zs .entry))) (lent (now (lattice .entry)) (now (residual .entry)) (now (whole .entry)) (now (floats .entry))) ⌝ }
     ensures { λ r. ⌜ Demand3 (shape m0 n0 h) (survey (now (xs .entry)) (now (ys .entry)) (now (zs .entry))) (told r) (now (lattice .exit)) ⌝ }
 {
     if let Verdict::Refused(r) = survey::head(m0, n0, h, xs, ys, zs) {
-        return LatticeFitted::Refused(r);
+        return CellsTold::Refused(r);
     }
     let m = levels::cells(m0, h);
     let n = levels::cells(n0, h);
     let most = (m + 3) * (n + 3);
     let p = xs.len();
-    if let Verdict::Refused(r) = room(
+    if let Verdict::Refused(r) = lending::room(
         most,
         p,
         lattice.len(),
@@ -70,10 +41,10 @@ pub fn fit(
         whole.len(),
         floats.len(),
     ) {
-        return LatticeFitted::Refused(r);
+        return CellsTold::Refused(r);
     }
     if let Verdict::Refused(r) = point_checks::points(m, n, xs, ys, zs) {
-        return LatticeFitted::Refused(r);
+        return CellsTold::Refused(r);
     }
     let answer = fitting::run(
         m0,

@@ -6,14 +6,11 @@ ghost use Rattle.algebra.specs.Table.{over};
 ghost use Rattle.rules.specs.Grid.{controls};
 ghost use Rattle.rules.specs.Answers.{outcome};
 ghost use Rattle.rules.specs.LatticeFile as rule;
-ghost use Rattle.lattice_reader.specs.Read.{told, valuesFrom, latticeFrom};
+ghost use Rattle.answers.specs.CellsTold.{told};
+ghost use Rattle.lattice_reader.specs.Read.{valuesFrom, latticeFrom};
+use answers::CellsTold;
 use answers::Refusal;
 use answers::Verdict;
-
-pub enum LatticeRead {
-    Cells(usize, usize),
-    Refused(Refusal),
-}
 
 // One row of values, from byte s on.
 fn copy_row(file: &[u8], s: usize, row: &mut [i64])
@@ -46,23 +43,23 @@ fn copy(file: &[u8], m: usize, n: usize, output: &mut [i64])
 }
 
 // The whole file is judged before a value is written.
-pub fn read_lattice(file: &[u8], output: &mut [i64]) -> LatticeRead
+pub fn read_lattice(file: &[u8], output: &mut [i64]) -> CellsTold
     ensures { λ r. ⌜ outcome (told r) (now (output .exit)) ≡ rule.readLatticeCall (now (file .entry)) (now (output .entry)) ⌝ }
 {
     if let Verdict::Refused(v) = lattice_records::head(file) {
-        return LatticeRead::Refused(v);
+        return CellsTold::Refused(v);
     }
     let m = codec::u16_at(file, 2) as usize;
     let n = codec::u16_at(file, 4) as usize;
     if let Verdict::Refused(v) = lattice_records::rows(file, m, n) {
-        return LatticeRead::Refused(v);
+        return CellsTold::Refused(v);
     }
     if let Verdict::Refused(v) = lattice_records::end(file, m, n) {
-        return LatticeRead::Refused(v);
+        return CellsTold::Refused(v);
     }
     if output.len() < lattice_layout::count(m, n) {
-        return LatticeRead::Refused(Refusal::Short);
+        return CellsTold::Refused(Refusal::Short);
     }
     copy(file, m, n, output);
-    LatticeRead::Cells(m, n)
+    CellsTold::Cells(m, n)
 }

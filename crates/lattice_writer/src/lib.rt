@@ -6,18 +6,15 @@ ghost use Rattle.algebra.specs.Table.{over, joined, laid};
 ghost use Rattle.rules.specs.Grid.{controls};
 ghost use Rattle.rules.specs.Answers.{outcome};
 ghost use Rattle.rules.specs.LatticeFile as rule;
-ghost use Rattle.lattice_writer.specs.Written.{told, bytesOfValues};
+ghost use Rattle.answers.specs.CountTold.{told};
+ghost use Rattle.lattice_writer.specs.Written.{bytesOfValues};
+use answers::CountTold;
 use answers::Refusal;
 use answers::Verdict;
 use records::E;
 use records::H;
 use records::L;
 use records::R;
-
-pub enum LatticeWritten {
-    Bytes(usize),
-    Refused(Refusal),
-}
 
 // The bytes of values, from byte s on.
 fn put_values(values: &[i64], s: usize, output: &mut [u8])
@@ -73,20 +70,20 @@ pub fn put_lattice(m: usize, n: usize, lattice: &[i64], output: &mut [u8]) -> us
 }
 
 // The lattice and the room for its file are judged before a byte is written.
-pub fn write_lattice(m: usize, n: usize, lattice: &[i64], output: &mut [u8]) -> LatticeWritten
+pub fn write_lattice(m: usize, n: usize, lattice: &[i64], output: &mut [u8]) -> CountTold
     ensures { λ r. ⌜ outcome (told r) (now (output .exit)) ≡ rule.writeLatticeCall m n (now (lattice .entry)) (now (output .entry)) ⌝ }
 {
     if let Verdict::Refused(v) = checks::cells(512, m, n) {
-        return LatticeWritten::Refused(v);
+        return CountTold::Refused(v);
     }
     if lattice.len() < lattice_layout::count(m, n) {
-        return LatticeWritten::Refused(Refusal::Short);
+        return CountTold::Refused(Refusal::Short);
     }
     if output.len() < lattice_layout::row_start(m, n + 3) + 4 {
-        return LatticeWritten::Refused(Refusal::Short);
+        return CountTold::Refused(Refusal::Short);
     }
     if let Verdict::Refused(v) = checks::lattice(m, n, lattice) {
-        return LatticeWritten::Refused(v);
+        return CountTold::Refused(v);
     }
-    LatticeWritten::Bytes(put_lattice(m, n, lattice, output))
+    CountTold::Count(put_lattice(m, n, lattice, output))
 }

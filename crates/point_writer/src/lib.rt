@@ -7,17 +7,14 @@ ghost use Rattle.rules.specs.Answers.{outcome};
 ghost use Rattle.rules.specs.Fit.{shape, survey};
 ghost use Rattle.rules.specs.PointFile as rule;
 ghost use Rattle.rules.specs.Laws.PointFile.{recordOf};
-ghost use Rattle.point_writer.specs.Written.{told, headBytes};
+ghost use Rattle.answers.specs.CountTold.{told};
+ghost use Rattle.point_writer.specs.Written.{headBytes};
+use answers::CountTold;
 use answers::Refusal;
 use answers::Verdict;
 use records::H;
 use records::P;
 use records::T;
-
-pub enum PointsWritten {
-    Bytes(usize),
-    Refused(Refusal),
-}
 
 // The file's head.
 fn put_head(m0: usize, n0: usize, h: usize, p: usize, output: &mut [u8])
@@ -63,20 +60,20 @@ pub fn write_points(
     ys: &[u16],
     zs: &[i64],
     output: &mut [u8],
-) -> PointsWritten
+) -> CountTold
     ensures { λ r. ⌜ outcome (told r) (now (output .exit)) ≡ rule.writePointsCall (shape m0 n0 h) (survey (now (xs .entry)) (now (ys .entry)) (now (zs .entry))) (now (output .entry)) ⌝ }
 {
     if let Verdict::Refused(r) = survey::head(m0, n0, h, xs, ys, zs) {
-        return PointsWritten::Refused(r);
+        return CountTold::Refused(r);
     }
     let p = xs.len();
     if output.len() < 8 + 14 * p {
-        return PointsWritten::Refused(Refusal::Short);
+        return CountTold::Refused(Refusal::Short);
     }
     if let Verdict::Refused(r) = point_checks::points(m0 << h, n0 << h, xs, ys, zs) {
-        return PointsWritten::Refused(r);
+        return CountTold::Refused(r);
     }
     put_head(m0, n0, h, p, output);
     put_points(xs, ys, zs, output);
-    PointsWritten::Bytes(8 + 14 * p)
+    CountTold::Count(8 + 14 * p)
 }

@@ -11,7 +11,7 @@ use Rattle.rules.specs.Grid.{control}
 use Rattle.rules.specs.Surface.{height}
 use Rattle.rules.specs.Calls.{nodes, stepOf, nodeX, nodeY}
 use Rattle.basis.specs.Sums.{on-grid, unit-shifted}
-use Rattle.raster.specs.Sampled.{Samplable, nodeHeight}
+use Rattle.raster.specs.Samplable.{Samplable, nodeHeight}
 use Rattle.strips.specs.Strips.{StripInside, Room, Striped}
 use Rattle.strips.specs.declared.Strip.{Strip}
 use Rattle.strips.specs.Stripes.{all-striped}

@@ -1,2 +1,2 @@
-pub mod Sampled
+pub mod Samplable
 pub mod Promises

@@ -16,8 +16,8 @@ use Rattle.rules.specs.Calls.{Nodes, cellsCheck, unitCheck, latticeCheck, nodeX
 use Rattle.rules.specs.Laws.Checks.{required, require-met, then-both, then-rest, firstOf-none, call-unrefused, call-value, call-after}
 use Rattle.rules.specs.Laws.Surface.{height-within}
 use Rattle.heights.specs.Promises.{height-passed}
-use Rattle.raster.specs.Sampled.{told}
-use Rattle.raster.specs.declared.Sampled.{Sampled}
+use Rattle.answers.specs.CountTold.{told}
+use Rattle.answers.specs.declared.CountTold.{CountTold}
 
 module _ (m n U : ℕ) (l : List ℤ) (g : Nodes) (d : List ℤ) where
   -- the height at node q is accepted
@@ -35,7 +35,7 @@ module _ (m n U : ℕ) (l : List ℤ) (g : Nodes) (d : List ℤ) where
       (require-met on (position 0) (required on (position q) (firstOf-none (g .across * g .down) (nodeCheck (U * m) (U * n) g) (e .1) q k)))
 
   -- an accepted raster of q nodes, and the slice that it leaves
-  module _ (r : Sampled) (after : List ℤ) (rules : outcome (told r) after ≡ rasterCall m n U l g d) (q : ℕ) (is : told r ≡ accepted q) where
+  module _ (r : CountTold) (after : List ℤ) (rules : outcome (told r) after ≡ rasterCall m n U l g d) (q : ℕ) (is : told r ≡ accepted q) where
     passed : rasterCheck m n U l g d ≡ none
     unfolding rasterCall
     passed = call-unrefused _ _ _ d (told r) after rules q is

@@ -8,16 +8,13 @@ ghost use Rattle.algebra.specs.Table.{tabulate, over};
 ghost use Rattle.rules.specs.Answers.{outcome};
 ghost use Rattle.rules.specs.Calls as calls;
 ghost use Rattle.checks.specs.Ready.{Tells};
-ghost use Rattle.raster.specs.Sampled.{told, Samplable, nodeHeight};
+ghost use Rattle.answers.specs.CountTold.{told};
+ghost use Rattle.raster.specs.Samplable.{Samplable, nodeHeight};
+use answers::CountTold;
 use answers::Refusal;
 use answers::Verdict;
 use checks::Readiness;
 use strips::Strip;
-
-pub enum Sampled {
-    Nodes(usize),
-    Refused(Refusal),
-}
 
 fn lesser(a: usize, b: usize) -> usize
     ensures { λ r. ⌜ r ≡ min a b ⌝ }
@@ -111,15 +108,15 @@ pub fn raster(
     columns: usize,
     rows: usize,
     output: &mut [i64],
-) -> Sampled
+) -> CountTold
     ensures { λ r. ⌜ outcome (told r) (now (output .exit)) ≡ calls.rasterCall m n unit (now (lattice .entry)) (calls.nodes x0 y0 step columns rows) (now (output .entry)) ⌝ }
 {
     let room = output.len();
     match samplable(m, n, unit, lattice, x0, y0, step, columns, rows, room) {
         Readiness::Of(e) => {
             raster_within(m, n, e, lattice, x0, y0, step, columns, rows, output);
-            Sampled::Nodes(columns * rows)
+            CountTold::Count(columns * rows)
         }
-        Readiness::Refused(r) => Sampled::Refused(r),
+        Readiness::Refused(r) => CountTold::Refused(r),
     }
 }

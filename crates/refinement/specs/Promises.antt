@@ -17,8 +17,8 @@ use Rattle.rules.specs.Laws.Checks.{Only, only-require, only-then, only-rangeCh
 use Rattle.rules.specs.Laws.Checks.{call-unrefused, call-value, call-after, call-refusal}
 use Rattle.rules.specs.Laws.Passed.{lattice-passed}
 use Rattle.rules.specs.Laws.Surface.{Bounded, control-within, refined-within, length-store, store-within}
-use Rattle.refinement.specs.Refined.{told}
-use Rattle.refinement.specs.declared.Refined.{Refined}
+use Rattle.answers.specs.CellsTold.{told}
+use Rattle.answers.specs.declared.CellsTold.{CellsTold}
 
 -- a refusal that no level gave
 abbrev pub Before7 : Refusal → Type 0
@@ -38,7 +38,7 @@ new-values m n l o e = refined-within m n (control m l) limit (control-within m 
 
 -- ---- the promises
 
-module _ (m n : ℕ) (lattice before after : List ℤ) (r : Refined) (rules : outcome (told r) after ≡ refineCall m n lattice before) where
+module _ (m n : ℕ) (lattice before after : List ℤ) (r : CellsTold) (rules : outcome (told r) after ≡ refineCall m n lattice before) where
   pub never-7 : (f : Refusal) → told r ≡ refused f → Before7 f
   unfolding refineCall
   never-7 f e = before-7 m n lattice before .only f (call-refusal _ _ _ before (told r) after rules f e)

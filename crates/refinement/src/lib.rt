@@ -8,14 +8,10 @@ ghost use Rattle.rules.specs.Refinement as rule;
 ghost use Rattle.rules.specs.Answers.{outcome};
 ghost use Rattle.rules.specs.Calls.{refineCall};
 ghost use Rattle.rules.specs.Laws.Checks.{AllInRange};
-ghost use Rattle.refinement.specs.Refined.{told};
+ghost use Rattle.answers.specs.CellsTold.{told};
+use answers::CellsTold;
 use answers::Refusal;
 use answers::Verdict;
-
-pub enum Refined {
-    Cells(usize, usize),
-    Refused(Refusal),
-}
 
 // The refinement of a lattice that is known to be long enough and in range, into an output that is long enough.
 fn refine_within(m: usize, n: usize, lattice: &[i64], output: &mut [i64])
@@ -36,21 +32,21 @@ fn refine_within(m: usize, n: usize, lattice: &[i64], output: &mut [i64])
 }
 
 // m by n cells become 2m by 2n, behind document 01's checks in their order.
-pub fn refine(m: usize, n: usize, lattice: &[i64], output: &mut [i64]) -> Refined
+pub fn refine(m: usize, n: usize, lattice: &[i64], output: &mut [i64]) -> CellsTold
     ensures { λ r. ⌜ outcome (told r) (now (output .exit)) ≡ refineCall m n (now (lattice .entry)) (now (output .entry)) ⌝ }
 {
     if let Verdict::Refused(r) = checks::cells(256, m, n) {
-        return Refined::Refused(r);
+        return CellsTold::Refused(r);
     }
     if lattice.len() < (m + 3) * (n + 3) {
-        return Refined::Refused(Refusal::Short);
+        return CellsTold::Refused(Refusal::Short);
     }
     if output.len() < (2 * m + 3) * (2 * n + 3) {
-        return Refined::Refused(Refusal::Short);
+        return CellsTold::Refused(Refusal::Short);
     }
     if let Verdict::Refused(r) = checks::lattice(m, n, lattice) {
-        return Refined::Refused(r);
+        return CellsTold::Refused(r);
     }
     refine_within(m, n, lattice, output);
-    Refined::Cells(2 * m, 2 * n)
+    CellsTold::Cells(2 * m, 2 * n)
 }

@@ -6,8 +6,8 @@ ghost use Rattle.rules.specs.Fit.{shape, survey};
 ghost use Rattle.rules.specs.Program.{programOutput};
 ghost use Rattle.refused_line.specs.Wrote.{Wrote};
 ghost use Rattle.respond.specs.Taken.{Taken, answerText};
+use answers::CellsTold;
 use answers::Refusal;
-use fitting::LatticeFitted;
 use point_records::PointsRead;
 
 // The lattice file of points that are taken, or the fit's refusal, at the start of output; answers its length.
@@ -39,8 +39,8 @@ fn fit_and_write(
         &mut whole,
         &mut floats,
     ) {
-        LatticeFitted::Cells(m, n) => lattice_writer::put_lattice(m, n, &lattice, output),
-        LatticeFitted::Refused(r) => refused_line::put_refused(r, output),
+        CellsTold::Cells(m, n) => lattice_writer::put_lattice(m, n, &lattice, output),
+        CellsTold::Refused(r) => refused_line::put_refused(r, output),
     }
 }
 

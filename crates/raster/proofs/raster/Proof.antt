@@ -11,7 +11,7 @@ use Rattle.rules.specs.Answers.{accepted, outcome}
 use Rattle.rules.specs.Calls.{Nodes, rasterCheck, rasterCall}
 use Rattle.rules.specs.Laws.Checks.{call-refused, call-accepted}
 use Rattle.checks.specs.Passed.{exponent-check, refusal-check}
-use Rattle.raster.specs.Sampled.{nodeHeight}
+use Rattle.raster.specs.Samplable.{nodeHeight}
 use Rattle.raster.proofs.raster.Statement.{statement}
 use Rattle.raster.proofs.raster.Tie as tie
 

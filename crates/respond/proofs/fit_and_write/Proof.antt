@@ -3,7 +3,7 @@ use mathlib.Core.Path.{sym, ap, _∙_}
 use native.Mathlib.Omega.{arith}
 use borrow.Author.Needs.{needs}
 use Rattle.rules.specs.Laws.LatticeFile.{length-latticeFile}
-use Rattle.fitting.specs.LatticeFitted.{told}
+use Rattle.answers.specs.CellsTold.{told}
 use Rattle.respond.proofs.Fitting.{written-as, refusal, room, file-is}
 use Rattle.respond.proofs.fit_and_write.Statement.{statement}
 use Rattle.respond.proofs.fit_and_write.Tie as tie

@@ -1,4 +1,4 @@
--- `fitting::deliver` meets its contract: a part that is lent is an area, and all of it is copied.
+-- `lending::deliver` meets its contract: a part that is lent is an area, and all of it is copied.
 use mathlib.Core.Path.{_≡_, ap, _∙_}
 use mathlib.Core.List.{List}
 use Prim.Native.Nat.{ℕ, _+_, _-_, _*_, _%_, _≤_}
@@ -8,8 +8,8 @@ use lib.IntN.{ℤ}
 use lib.ListN.{take, drop}
 use Rattle.algebra.specs.Table.{over, area, area-part, take-area}
 use Rattle.scratch.specs.Scratch.{area-within}
-use Rattle.fitting.proofs.deliver.Statement.{statement}
-use Rattle.fitting.proofs.deliver.Tie as tie
+use Rattle.lending.proofs.deliver.Statement.{statement}
+use Rattle.lending.proofs.deliver.Tie as tie
 
 copied : {now : List ℤ} (n k : ℕ) (whole d : List ℤ) → now ≡ over (take k (take (n + k - n) (drop n whole))) d → now ≡ over (area n k whole) d
 copied n k whole d e = e ∙ ap (λ r. over r d) (ap (take k) (area-part n k whole) ∙ take-area n k k whole (omega arith))

@@ -2,20 +2,11 @@
 use mathlib.Core.List.{List}
 use Prim.Native.Nat.{ℕ, _*_, _^_, _≤_}
 use lib.IntN.{ℤ}
-use Rattle.rules.specs.Answers as rule
 use Rattle.rules.specs.Grid.{control}
 use Rattle.rules.specs.Surface.{height}
 use Rattle.rules.specs.Calls as calls
-use Rattle.answers.specs.Cause.{cause}
 use Rattle.basis.specs.Weighing.{Grounded}
 use Rattle.nodes.specs.Inside.{NodesInside}
-use Rattle.raster.specs.declared.Sampled.{Sampled}
-use Rattle.raster.specs.declared.Sampled.the-variants.{Nodes, Refused}
-
--- document 01's answer for each case
-abbrev pub told : Sampled → rule.Answer ℕ
-told (Nodes q) = rule.accepted q
-told (Refused r) = rule.refused (cause r)
 
 -- heights of the lattice can be read at every node, and there is room for them
 pub record Samplable (m n e : ℕ) (lattice : List ℤ) (g : calls.Nodes) (room : ℕ) : Type 0 where

@@ -5,10 +5,10 @@ use Rattle.rules.specs.Answers as rule
 use Rattle.rules.specs.Answers.{accepted, refused}
 use Rattle.rules.specs.Calls as calls
 use Rattle.rules.specs.PointFile as pointFile
-use Rattle.curlewtable.specs.declared.CellsAnswer.{CellsAnswer}
-use Rattle.curlewtable.specs.declared.HeightAnswer.{HeightAnswer}
-use Rattle.curlewtable.specs.declared.CountAnswer.{CountAnswer}
-use Rattle.curlewtable.specs.declared.HeaderAnswer.{HeaderAnswer}
+use Rattle.fields.specs.declared.CellsAnswer.{CellsAnswer}
+use Rattle.fields.specs.declared.HeightAnswer.{HeightAnswer}
+use Rattle.fields.specs.declared.CountAnswer.{CountAnswer}
+use Rattle.fields.specs.declared.HeaderAnswer.{HeaderAnswer}
 
 -- the fields of an answer, and the slices as the call leaves them
 pub record Handed (A B : Type 0) : Type 0 where

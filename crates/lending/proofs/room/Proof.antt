@@ -1,10 +1,10 @@
--- `fit::room` meets its contract: each slice that is too short is refused.
+-- `lending::room` meets its contract: each slice that is too short is refused.
 use borrow.Author.Needs.{needs}
 use borrow.Author.Tests.{le-leb, lt-leb}
 use Rattle.rules.specs.Answers.{require}
 use Rattle.rules.specs.Calls.{roomCheck}
-use Rattle.fit.proofs.room.Statement.{statement}
-use Rattle.fit.proofs.room.Tie as tie
+use Rattle.lending.proofs.room.Statement.{statement}
+use Rattle.lending.proofs.room.Tie as tie
 
 returns : tie.Need-returns
 unfolding roomCheck require
