@@ -18,7 +18,7 @@
 #include <string.h>
 
 #define LEAST_ROUNDS 10
-#define POSITIONS 5000                  /* heights in one run */
+#define POSITIONS 5000                  /* heights or slopes in one run */
 
 enum { LIBRARY, C, SIDES };
 
@@ -26,7 +26,7 @@ static double seconds_a_line = 1.0;
 
 /* ---- what is timed ---- */
 
-/* A call, and for heights the positions that it is made at. */
+/* A call, and for heights and slopes the positions that it is made at. */
 typedef struct {
     call call;
     size_t x[POSITIONS], y[POSITIONS];
@@ -37,33 +37,42 @@ static uint64_t answer_of_call(const job *j, runner *run)
     return run(&j->call).field[FIRST];
 }
 
-/* Heights take so little time that they are called without a runner between; the sum keeps the calls from being dropped. */
-#define HEIGHTS(name, height_at)                                                                        \
-    static uint64_t name(const job *j, runner *run)                                                     \
-    {                                                                                                   \
-        const size_t *v = j->call.number;                                                               \
-        const slice of = j->call.slice[LATTICE];                                                        \
-        uint64_t sum = 0;                                                                               \
-        size_t i;                                                                                       \
-                                                                                                        \
-        (void)run;                                                                                      \
-        for (i = 0; i < POSITIONS; i++)                                                                 \
-            sum += (uint64_t)height_at(v[M], v[N], v[UNIT], of.at, of.length, j->x[i], j->y[i]).height; \
-        return sum;                                                                                     \
+/*
+ * Heights and slopes take so little time that they are called without a runner between; the sum keeps the calls from being
+ * dropped. kind is the answer's type, and its function is kind_at.
+ */
+#define AT_POSITIONS(name, kind, value)                                                        \
+    static uint64_t name(const job *j, runner *run)                                            \
+    {                                                                                          \
+        const size_t *v = j->call.number;                                                      \
+        const slice of = j->call.slice[LATTICE];                                               \
+        uint64_t sum = 0;                                                                      \
+        size_t i;                                                                              \
+                                                                                               \
+        (void)run;                                                                             \
+        for (i = 0; i < POSITIONS; i++) {                                                      \
+            const kind a = kind##_at(v[M], v[N], v[UNIT], of.at, of.length, j->x[i], j->y[i]); \
+            sum += (uint64_t)(value);                                                          \
+        }                                                                                      \
+        return sum;                                                                            \
     }
 
-HEIGHTS(heights_by_library, curlew_height_at)
-HEIGHTS(heights_by_c, ref_height_at)
+AT_POSITIONS(heights_by_library, curlew_height, a.height)
+AT_POSITIONS(heights_by_c, ref_height, a.height)
+AT_POSITIONS(slopes_by_library, curlew_slope, a.along_x + a.along_y)
+AT_POSITIONS(slopes_by_c, ref_slope, a.along_x + a.along_y)
 
 typedef uint64_t work(const job *j, runner *run);
 
 static uint64_t run_once(const job *j, int side)
 {
-    static work *const heights[SIDES] = { heights_by_library, heights_by_c };
+    static work *const at_positions[FUNCTIONS][SIDES] = {
+        [HEIGHT_AT] = { heights_by_library, heights_by_c }, [SLOPE_AT] = { slopes_by_library, slopes_by_c },
+    };
     static runner *const run[SIDES] = { run_library, run_reference };
-    work *of_job = j->call.function == HEIGHT_AT ? heights[side] : answer_of_call;
+    work *of_job = at_positions[j->call.function][side];
 
-    return of_job(j, run[side]);
+    return of_job != NULL ? of_job(j, run[side]) : answer_of_call(j, run[side]);
 }
 
 /* Both must accept and agree, or the times mean nothing. */
@@ -176,10 +185,11 @@ static job *fit_job(size_t cells, size_t h, size_t points)
     return j;
 }
 
-static job *height_job(size_t cells)
+/* Heights or slopes. */
+static job *positions_job(function f, size_t cells)
 {
     generator g = generator_of(3, cells);
-    job *j = new_job(HEIGHT_AT, cells, cells);
+    job *j = new_job(f, cells, cells);
     size_t at;
 
     j->call.number[UNIT] = 16;
@@ -301,8 +311,10 @@ static void calls_table(void)
     line("fit, 500 points, 1 x 1, h = 4", fit_job(1, 4, 500), 1);
     line("fit, 5,000 points, 4 x 4, h = 5", fit_job(4, 5, 5000), 1);
     line("fit, 65,535 points, 16 x 16, h = 5", fit_job(16, 5, 65535), 1);
-    line("height, 1 x 1", height_job(1), POSITIONS);
-    line("height, 64 x 64 (a scan of 4,489 values)", height_job(64), POSITIONS);
+    line("height, 1 x 1", positions_job(HEIGHT_AT, 1), POSITIONS);
+    line("height, 64 x 64 (a scan of 4,489 values)", positions_job(HEIGHT_AT, 64), POSITIONS);
+    line("slopes, 1 x 1", positions_job(SLOPE_AT, 1), POSITIONS);
+    line("slopes, 64 x 64 (a scan of 4,489 values)", positions_job(SLOPE_AT, 64), POSITIONS);
     line("raster, 2,049 x 2,049 nodes of 512 x 512", raster_job(512, 4), 1);
     line("refine, 256 x 256 to 512 x 512", refine_job(256), 1);
     line("write_lattice, 512 x 512 (2,123,870 bytes)", write_lattice_job(512), 1);

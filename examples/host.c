@@ -1,10 +1,13 @@
 /*
- * An example host: reads a point file, fits the ground lattice, samples it on a raster and prints what a surveyor looks at first.
+ * An example host: reads a point file, fits the ground lattice, samples it on a raster and prints what a surveyor looks at first:
+ * the residuals, the steepest fall of the raster's nodes and a table of heights.
  *
- *     host POINTS [STEP [LATTICE]]
+ *     host POINTS [STEP [LATTICE [SIZE [SIZE_Y]]]]
  *
  * POINTS is a point file (tools/points makes one from a CSV file), STEP the raster's step in positions (16 where it is not given),
- * LATTICE the name of a lattice file to write (tools/relief draws it).
+ * LATTICE the name of a lattice file to write (tools/relief draws it), or - for none. SIZE and SIZE_Y are the metres of a position
+ * along x and along y, as tools/points was given --size and --size-y (SIZE for both where SIZE_Y is not given): a point file does
+ * not say them. With them the steepest fall is the steepest on the ground, and in per cent; without them it is per position.
  * Ends with 0, with 1 where the library refuses (number, place and words on standard error), with 2 where the host itself cannot
  * go on: bad usage, a file that cannot be read or written, no memory.
  *
@@ -24,6 +27,10 @@
 #define TABLE_COLUMNS 8             /* the printed table has at most so many columns and rows */
 #define TABLE_ROWS 9
 #define MICROMETRES 1000000         /* in a metre */
+#define THOUSANDTHS 1000            /* in a whole: falls are printed with three decimals */
+#define NANOMETRES 10000            /* of fall in a metre: a thousandth of a per cent */
+#define SHORTEST 0.000001           /* metres of a position: tools/points takes the same */
+#define LONGEST 100000000.0
 
 enum { DONE = 0, REFUSED = 1, FAILED = 2 };
 
@@ -41,6 +48,8 @@ typedef struct {
     curlew_cells cells;
     int64_t *raster;
     size_t step, columns, rows;
+    int sized;                      /* whether the lengths of a position are given; both are 1 where they are not */
+    double size_x, size_y;          /* metres of a position along x and along y */
     uint8_t *output;                /* the lattice file */
 } survey;
 
@@ -67,7 +76,7 @@ static const struct { const char *words, *place; } refusals[] = {
     { "h above 5, or U not 16, 32, 64, 128, 256 or 512", "0" },
     { "x, y, z lists differ in length, or over 65,535 points", "0" },
     { "a lent slice is too short", "0" },
-    { "position outside", "the point's or node's index, 0 for a single height" },
+    { "position outside", "the point's or node's index, 0 for a single height or slope" },
     { "height or control value out of range", "its index" },
     { "a quotient, a residual or a sum out of range in a level of the fit", "the level" },
     { "step above 8,192, or columns or rows above 8,193", "0" },
@@ -241,6 +250,95 @@ static void print_table(const survey *s)
     }
 }
 
+/* ---- falls */
+
+/* The cell of a position along one axis: the far edge belongs to the last. */
+static size_t cell_of(size_t position, size_t cells)
+{
+    return position < UNIT * cells ? position / UNIT : cells - 1;
+}
+
+/*
+ * The slopes at a position. They depend on the 16 control values of its cell alone, and a call scans all that it is lent: so the
+ * cell is lent as a lattice of 1 by 1, and a node takes no longer in a large lattice than in a small one.
+ */
+static curlew_slope slope_at(const survey *s, size_t x, size_t y)
+{
+    const size_t across = s->cells.m + 3, i = cell_of(x, s->cells.m), j = cell_of(y, s->cells.n);
+    int64_t cell[CURLEW_CONTROLS(1, 1)];
+    size_t row;
+
+    for (row = 0; row < 4; row++)
+        memcpy(cell + 4 * row, s->lattice + (j + row) * across + i, 4 * sizeof *cell);
+    return curlew_slope_at(1, 1, UNIT, cell, CURLEW_CONTROLS(1, 1), x - UNIT * i, y - UNIT * j);
+}
+
+/*
+ * To compare falls: the square of the gradient, times that of size_x, which is the same at every node. Exact where both lengths
+ * are the same and both slopes under 67 millimetres a position, to 15 digits elsewhere.
+ */
+static double steepness(const survey *s, curlew_slope at)
+{
+    const double along_x = (double)at.along_x, along_y = (double)at.along_y * (s->size_x / s->size_y);
+    return along_x * along_x + along_y * along_y;
+}
+
+/* The slopes at the node whose fall is the steepest, the first of several; those of level ground where no node has any fall. */
+static int find_steepest(const survey *s, curlew_slope *steepest, size_t *node)
+{
+    size_t i;
+
+    for (i = 0; i < s->columns * s->rows; i++) {
+        const curlew_slope at = slope_at(s, i % s->columns * s->step, i / s->columns * s->step);
+        if (at.number != 0)
+            return refused(s, "curlew_slope_at", at.number, at.place);
+        if (steepness(s, at) > steepness(s, *steepest)) {
+            *steepest = at;
+            *node = i;
+        }
+    }
+    return DONE;
+}
+
+/* What is printed of a slope: thousandths of a micrometre per position, or of a per cent, the nearest, halves away from 0. */
+static int64_t thousandths(const survey *s, int64_t slope, double size)
+{
+    const double gradient = (double)slope / (NANOMETRES * size);
+
+    return s->sized ? (int64_t)(gradient < 0 ? gradient - 0.5 : gradient + 0.5) : slope;
+}
+
+/* The digits, and which way: where the slope is positive, the ground falls against the axis. Where all are 0 there is no way. */
+static void print_fall(int64_t slope, char axis)
+{
+    const int64_t size = slope < 0 ? -slope : slope;
+
+    printf(" %" PRId64 ".%03" PRId64, size / THOUSANDTHS, size % THOUSANDTHS);
+    if (size == 0)
+        printf(" along %c,", axis);
+    else
+        printf(" towards %c%c,", slope > 0 ? '-' : '+', axis);
+}
+
+static int print_steepest(const survey *s)
+{
+    curlew_slope steepest = { 0, 0, 0, 0 };
+    size_t node = 0;
+    const int result = find_steepest(s, &steepest, &node);
+
+    if (result != DONE)
+        return result;
+    printf("steepest fall, in %s:", s->sized ? "per cent" : "micrometres per position");
+    if (steepest.along_x == 0 && steepest.along_y == 0) {
+        printf(" none, every node is level\n");
+    } else {
+        print_fall(thousandths(s, steepest.along_x, s->size_x), 'x');
+        print_fall(thousandths(s, steepest.along_y, s->size_y), 'y');
+        printf(" at (%zu, %zu)\n", node % s->columns * s->step, node / s->columns * s->step);
+    }
+    return DONE;
+}
+
 /* ---- the lattice file */
 
 static int write_file(const char *name, const uint8_t *bytes, size_t count)
@@ -288,14 +386,41 @@ static int read_step(const char *word, size_t *step)
     return DONE;
 }
 
-static int run(survey *s, int words, char **word)
+/* The range leaves out 0, infinities and NaN, which is in no range; and with it no gradient overflows. */
+static int read_size(const char *word, double *size)
+{
+    char *end;
+
+    *size = strtod(word, &end);
+    if (end == word || *end != '\0' || !(*size >= SHORTEST && *size <= LONGEST)) {
+        fprintf(stderr, "the size of a position is a number of metres from 0.000001 to 100000000: %s\n", word);
+        return FAILED;
+    }
+    return DONE;
+}
+
+/* All words but the name of the lattice file, which is for the end. */
+static int read_words(survey *s, int words, char **word)
 {
     int result = DONE;
 
     s->name = word[1];
     s->step = DEFAULT_STEP;
+    s->sized = words > 4;
+    s->size_x = s->size_y = 1;
     if (words > 2)
         result = read_step(word[2], &s->step);
+    if (result == DONE && s->sized)
+        result = read_size(word[4], &s->size_x);
+    if (result == DONE && s->sized)
+        result = read_size(word[words - 1], &s->size_y);        /* SIZE again where SIZE_Y is not given */
+    return result;
+}
+
+static int run(survey *s, int words, char **word)
+{
+    int result = read_words(s, words, word);
+
     if (result == DONE)
         result = read_file(s);
     if (result == DONE)
@@ -306,10 +431,12 @@ static int run(survey *s, int words, char **word)
         return result;
     print_residuals(s);
     result = sample(s);
+    if (result == DONE)
+        result = print_steepest(s);
     if (result != DONE)
         return result;
     print_table(s);
-    return words > 3 ? write_lattice(s, word[3]) : DONE;
+    return words > 3 && strcmp(word[3], "-") != 0 ? write_lattice(s, word[3]) : DONE;
 }
 
 int main(int argc, char **argv)
@@ -317,8 +444,8 @@ int main(int argc, char **argv)
     survey s = { 0 };
     int result;
 
-    if (argc < 2 || argc > 4) {
-        fprintf(stderr, "usage: host POINTS [STEP [LATTICE]]\n");
+    if (argc < 2 || argc > 6) {
+        fprintf(stderr, "usage: host POINTS [STEP [LATTICE [SIZE [SIZE_Y]]]], with - for no LATTICE\n");
         return FAILED;
     }
     result = run(&s, argc, argv);

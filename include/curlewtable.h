@@ -21,7 +21,7 @@
  *    2  h above 5, or U not 16, 32, 64, 128, 256 or 512                                         place 0
  *    3  x, y, z lists differ in length, or over 65,535 points                                   place 0
  *    4  a lent slice is too short                                                               place 0
- *    5  position outside                                    the point's or node's index, 0 for a single height
+ *    5  position outside                           the point's or node's index, 0 for a single height or slope
  *    6  height or control value out of range                                                    its index
  *    7  a quotient, a residual or a sum out of range in a level of the fit                      the level
  *    8  step above 8,192, or columns or rows above 8,193                                        place 0
@@ -72,6 +72,12 @@ typedef struct {
     int64_t height;
 } curlew_height;
 
+/* slope_at: the slopes along x and along y, in nanometres per position */
+typedef struct {
+    size_t number, place;
+    int64_t along_x, along_y;
+} curlew_slope;
+
 /* raster: nodes written; write_lattice, write_points: bytes written */
 typedef struct {
     size_t number, place;
@@ -103,6 +109,13 @@ curlew_cells curlew_fit(size_t m0, size_t n0, size_t h, const uint16_t *x, size_
  * heights use a raster.
  */
 curlew_height curlew_height_at(size_t m, size_t n, size_t unit, const int64_t *lattice, size_t lattice_len, size_t x, size_t y);
+
+/*
+ * Both slopes at (x, y), in whole nanometres per position: the rise along x and along y, negative where the ground falls. Each is
+ * within 750/unit + 1/2 of the exact surface's, and 0 where all control values are the same. Refuses 1, 2, 4, 6, 5, as the height
+ * there. Each call scans the whole lattice, once for both.
+ */
+curlew_slope curlew_slope_at(size_t m, size_t n, size_t unit, const int64_t *lattice, size_t lattice_len, size_t x, size_t y);
 
 /*
  * The refinement of m by n cells (1..256) to 2m by 2n: writes the (2m+3)(2n+3) new control values. Refuses 1, 4, 6.

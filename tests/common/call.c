@@ -7,13 +7,15 @@
 #define CELLS (BIT(M) | BIT(N))
 #define POINTS (BIT(X) | BIT(Y) | BIT(Z))
 #define FITTED (BIT(LATTICE) | BIT(RESIDUAL) | BIT(WHOLE) | BIT(FLOATS))
-#define NODES (BIT(AT_X) | BIT(AT_Y) | BIT(STEP) | BIT(COLUMNS) | BIT(ROWS))
+#define POSITION (CELLS | BIT(UNIT) | BIT(AT_X) | BIT(AT_Y))
+#define NODES (POSITION | BIT(STEP) | BIT(COLUMNS) | BIT(ROWS))
 
 const shape shapes[FUNCTIONS] = {
     [FIT] = { "fit", 16, CELLS | BIT(H), POINTS | FITTED, FITTED },
-    [HEIGHT_AT] = { "height_at", 512, CELLS | BIT(UNIT) | BIT(AT_X) | BIT(AT_Y), BIT(LATTICE), 0 },
+    [HEIGHT_AT] = { "height_at", 512, POSITION, BIT(LATTICE), 0 },
+    [SLOPE_AT] = { "slope_at", 512, POSITION, BIT(LATTICE), 0 },
     [REFINE] = { "refine", 256, CELLS, BIT(LATTICE) | BIT(VALUES), BIT(VALUES) },
-    [RASTER] = { "raster", 512, CELLS | BIT(UNIT) | NODES, BIT(LATTICE) | BIT(VALUES), BIT(VALUES) },
+    [RASTER] = { "raster", 512, NODES, BIT(LATTICE) | BIT(VALUES), BIT(VALUES) },
     [READ_LATTICE] = { "read_lattice", 0, 0, BIT(BYTES) | BIT(VALUES), BIT(VALUES) },
     [WRITE_LATTICE] = { "write_lattice", 512, CELLS, BIT(LATTICE) | BIT(BYTES), BIT(BYTES) },
     [READ_POINTS] = { "read_points", 0, 0, BIT(BYTES) | POINTS, POINTS },

@@ -11,6 +11,7 @@
 typedef enum {
     FIT,
     HEIGHT_AT,
+    SLOPE_AT,
     REFINE,
     RASTER,
     READ_LATTICE,

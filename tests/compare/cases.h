@@ -11,9 +11,10 @@ typedef void test_case(generator *g, size_class size);
 
 /*
  * The surface engine. The fits of range_end_case are the last that 7 lets pass and the first that it refuses; those of
- * leap_case are refused in late levels too; those of tie_case have quotients that are exact halves.
+ * leap_case are refused in late levels too; those of tie_case have quotients that are exact halves. slope_case also asks for
+ * the height, which is refused in the same way.
  */
-test_case fit_case, range_end_case, leap_case, tie_case, height_case, refine_case, raster_case;
+test_case fit_case, range_end_case, leap_case, tie_case, height_case, slope_case, refine_case, raster_case;
 
 /* The two files: written, then read back whole or damaged. */
 test_case lattice_file_case, point_file_case;
@@ -33,7 +34,7 @@ size_t some_point_count(generator *g, size_class size);
 /* Every cut of small files, and every byte of them changed to every value, or to a few. */
 void every_file_damage(int few_values);
 
-/* The examples of document 01, each by its printed values; returns how many there are. */
+/* The examples of document 01 by their printed values, and slopes of document 02 by known ones; returns how many there are. */
 size_t run_examples(void);
 
 /* What the demand 3 cases saw. */

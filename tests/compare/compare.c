@@ -3,10 +3,10 @@
  *
  *   compare [--vectors DIR] [--small] [--case N] [seconds [seed]]
  *
- * First come the examples of document 01, with --vectors every line of the outside vectors of that folder, and every damage
- * of a small file; then random cases for about so many seconds (30). --small leaves out the larger cases, for slow tools.
- * Prints how many calls were compared, by function and answer. At the first difference it prints the call and its case
- * number N, and exits with status 1; "compare --case N 0 seed" runs that case alone.
+ * First come the examples of document 01 and of the slopes of document 02, with --vectors every line of the outside vectors
+ * of that folder, and every damage of a small file; then random cases for about so many seconds (30). --small leaves out the
+ * larger cases, for slow tools. Prints how many calls were compared, by function and answer. At the first difference it
+ * prints the call and its case number N, and exits with status 1; "compare --case N 0 seed" runs that case alone.
  */
 #define _POSIX_C_SOURCE 200809L         /* alarm */
 
@@ -37,7 +37,7 @@ static const struct {
     size_t weight;
 } kinds[] = {
     { fit_case, 200 }, { range_end_case, 10 }, { leap_case, 20 }, { tie_case, 50 }, { height_case, 150 },
-    { refine_case, 100 }, { raster_case, 200 }, { lattice_file_case, 150 }, { point_file_case, 150 },
+    { slope_case, 150 }, { refine_case, 100 }, { raster_case, 200 }, { lattice_file_case, 150 }, { point_file_case, 150 },
     { demand3_case, 3 }, { exact_case, 2 }, { half_case, 30 },
 };
 

@@ -1,5 +1,5 @@
 /*
- * Random cases of the surface engine: fits, heights, refinements, rasters.
+ * Random cases of the surface engine: fits, heights, slopes, refinements, rasters.
  */
 #include "cases.h"
 #include "trial.h"
@@ -183,22 +183,24 @@ void tie_case(generator *g, size_class size)
 
 /* ---- heights ---- */
 
-/* A position, often on a grid line or at an edge. */
+/* A position, often on a grid line, in the middle of a cell or at an edge. */
 static size_t some_place(generator *g, size_t far, size_t unit)
 {
-    switch (below(g, 5)) {
+    switch (below(g, 6)) {
     case 0:
         return far;
     case 1:
         return unit * below(g, far / unit + 1);
     case 2:
         return once_in(g, 2) ? 0 : far - 1;
+    case 3:
+        return unit * below(g, far / unit) + unit / 2;
     default:
         return below(g, far + 1);
     }
 }
 
-/* Moves a height's position, or a raster's first node, outside. */
+/* Moves the position of a height or slope, or a raster's first node, outside. */
 static void place_outside(generator *g, draft *d)
 {
     const int along_x = once_in(g, 2);
@@ -244,6 +246,54 @@ void height_case(generator *g, size_class size)
 
     some_troubles(g, &d, height_trouble);
     trial(&d.call);
+}
+
+/* ---- slopes ---- */
+
+/* The ends of the range on both sides of a cell's middle, along x or y: there, at the new position, no slope is steeper. */
+static void make_cliff(generator *g, draft *d)
+{
+    const int along_x = once_in(g, 2);
+    size_t *v = d->call.number;
+    const size_t across = v[M] + 3, cell = below(g, v[along_x ? M : N]);
+    const int64_t first = once_in(g, 2) ? LIMIT : -LIMIT;
+    int64_t *values = d->call.slice[LATTICE].at;
+    size_t at;
+
+    for (at = 0; at < d->exact[LATTICE]; at++)
+        values[at] = (along_x ? at % across : at / across) < cell + 2 ? first : -first;
+    v[along_x ? AT_X : AT_Y] = v[UNIT] * cell + v[UNIT] / 2;
+}
+
+/* Control values whose sums at grid nodes are multiples of U/8: slopes there are multiples of 62.5, half of them halves. */
+static void make_halves(generator *g, draft *d)
+{
+    size_t *v = d->call.number, at;
+    const int64_t multiple = 3 * (int64_t)v[UNIT] / 4;
+    int64_t *values = d->call.slice[LATTICE].at;
+
+    for (at = 0; at < d->exact[LATTICE]; at++)
+        values[at] = multiple * between(g, -1000, 1000);
+    v[AT_X] = v[UNIT] * below(g, v[M] + 1);
+    v[AT_Y] = v[UNIT] * below(g, v[N] + 1);
+}
+
+/* The height at the same position is refused in the same way, or accepted as well. */
+void slope_case(generator *g, size_class size)
+{
+    draft d = some_surface(g, SLOPE_AT, size);
+    answer slope, height;
+
+    if (once_in(g, 8))
+        make_cliff(g, &d);
+    else if (once_in(g, 8))
+        make_halves(g, &d);
+    some_troubles(g, &d, height_trouble);
+    slope = trial(&d.call);
+    d.call.function = HEIGHT_AT;
+    height = trial(&d.call);
+    if (slope.field[NUMBER] != height.field[NUMBER] || slope.field[PLACE] != height.field[PLACE])
+        trial_failed(&d.call, "not refused as the slope is");
 }
 
 /* ---- refinements ---- */

@@ -1,6 +1,6 @@
 /*
- * The examples of document 01 ("Table of checked examples") and a few more with known answers, each as a trial whose
- * answer and results are held to the printed values.
+ * The examples of document 01 ("Table of checked examples") and a few more with known answers, among them slopes of
+ * document 02, each as a trial whose answer and results are held to those values.
  */
 #include "cases.h"
 #include "trial.h"
@@ -198,6 +198,80 @@ static void lattice_examples(void)
     raster_example("raster of step 8,193", 8193, 8);
 }
 
+/* ---- slopes: 1 by 1 cells, the same four control values in so many rows from the first on, 0 in the others ---- */
+
+static draft rows_of(const int64_t row[4], size_t rows)
+{
+    draft d = single_value(SLOPE_AT, 1, 0, 0, 0);
+    int64_t *lattice = d.call.slice[LATTICE].at;
+    size_t at;
+
+    for (at = 0; at < rows; at++)
+        memcpy(lattice + 4 * at, row, 4 * sizeof *row);
+    return d;
+}
+
+static void transpose(draft *d)
+{
+    int64_t *lattice = d->call.slice[LATTICE].at, transposed[16];
+    size_t at;
+
+    for (at = 0; at < COUNT(transposed); at++)
+        transposed[at] = lattice[at % 4 * 4 + at / 4];
+    memcpy(lattice, transposed, sizeof transposed);
+}
+
+static void expect_at(draft *d, size_t x, size_t y, int64_t along_x, int64_t along_y)
+{
+    d->call.number[AT_X] = x;
+    d->call.number[AT_Y] = y;
+    expect(d, 0, 0, (uint64_t)along_x, (uint64_t)along_y);
+}
+
+/* Once as given and once with x and y exchanged, so that what is said of one slope is tried on the other too. */
+static void expect_slopes(draft *d, size_t x, size_t y, int64_t along_x, int64_t along_y)
+{
+    expect_at(d, x, y, along_x, along_y);
+    transpose(d);
+    expect_at(d, y, x, along_y, along_x);
+    transpose(d);
+}
+
+/* The same slope along x at every position, and none along y. */
+static void plane_example(const char *name, const int64_t row[4], int64_t along_x)
+{
+    draft d = rows_of(row, 4);
+    size_t at;
+
+    begin(name);
+    for (at = 0; at < 17 * 17; at++)
+        expect_slopes(&d, at % 17, at / 17, along_x, 0);
+}
+
+static void slope_example(const char *name, const int64_t row[4], size_t rows, size_t x, int64_t along_x, int64_t along_y)
+{
+    draft d = rows_of(row, rows);
+
+    begin(name);
+    expect_slopes(&d, x, 0, along_x, along_y);
+}
+
+static void slope_examples(void)
+{
+    static const int64_t level[] = { 1234567, 1234567, 1234567, 1234567 }, plane[] = { -1000, 0, 1000, 2000 };
+    static const int64_t rise[] = { 0, 0, 2, 0 }, fall[] = { 2, 0, 0, 0 }, cliff[] = { -LIMIT, -LIMIT, LIMIT, LIMIT };
+    static const int64_t halves[] = { 51, 3, -3, -3 }, corner[] = { 3, 0, 0, 0 };
+
+    plane_example("slopes of level ground", level, 0);
+    plane_example("slopes of a plane, a millimetre a cell", plane, 62500);
+    slope_example("slope of 62 and a half", rise, 4, 0, 63, 0);
+    slope_example("slope of minus 62 and a half", fall, 4, 0, -62, 0);
+    slope_example("the steepest slope", cliff, 4, 8, INT64_C(375000000000), 0);
+    slope_example("slopes over column sums that are halves", halves, 1, 8, -109, -31);
+    /* near of its column and of its row is 1; were the first step not rounded, or the slope the first step, it would be -16 */
+    slope_example("slopes over one sum that is a half", corner, 1, 0, -31, -31);
+}
+
 /* ---- files: the lattice file of 1 by 1 zero cells, whole and with its rows tampered with ---- */
 
 static size_t zero_lattice_file(uint8_t *file, size_t rows)
@@ -260,6 +334,7 @@ size_t run_examples(void)
 {
     fit_examples();
     lattice_examples();
+    slope_examples();
     file_examples();
     return examples;
 }

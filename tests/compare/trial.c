@@ -12,6 +12,7 @@
 #include "../../include/curlewtable.h"
 #include "../common/basics.h"
 #include "../common/random.h"
+#include "../reference/reference.h"
 
 #include <inttypes.h>
 #include <signal.h>
@@ -262,6 +263,18 @@ static int well_formed(answer a)
                                 : all_zero((const unsigned char *)&a.field[FIRST], sizeof a - 2 * sizeof a.field[0]);
 }
 
+/* Each slope is within 750/unit + 1/2 of the exact surface's. */
+static int slopes_hold(const call *c, answer a)
+{
+    const size_t *v = c->number;
+    const int64_t *lattice = c->slice[LATTICE].at;
+    const ref_wide along_x = ref_slope_x_sum(v[M], v[N], v[UNIT], lattice, v[AT_X], v[AT_Y]);
+    const ref_wide along_y = ref_slope_y_sum(v[M], v[N], v[UNIT], lattice, v[AT_X], v[AT_Y]);
+
+    return ref_slope_holds(v[UNIT], (int64_t)a.field[FIRST], along_x)
+           && ref_slope_holds(v[UNIT], (int64_t)a.field[SECOND], along_y);
+}
+
 /* ---- the comparison ---- */
 
 /* The first byte at which two differ. */
@@ -328,6 +341,8 @@ static void compare_answers(const call *c, answer library, answer reference)
     }
     if (!well_formed(library))
         trial_failed(c, "a refusal with values, or an acceptance with a place");
+    if (c->function == SLOPE_AT && library.field[NUMBER] == 0 && !slopes_hold(c, library))
+        trial_failed(c, "a slope too far from the exact surface's");
 }
 
 /* The call with slices of the side's own, laid out like the other side's. */

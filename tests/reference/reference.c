@@ -1,8 +1,9 @@
 /*
- * A second implementation of document 01, written from document 01's text
- * alone: its author had that paper and the interface reference.h, and neither
- * the definitions, nor the library's code, nor any paper that explains document 01.
- * README.md says how its author read what the text leaves open.
+ * A second implementation of document 01 and of document 02's job 1, written from
+ * their text: its author had document 01 and the interface reference.h, and the later
+ * author of the slopes that job's text too, and this file as it stood. Neither had the
+ * definitions, nor the library's code, nor any paper that explains them.
+ * README.md says how they read what the text leaves open.
  *
  * Compile with
  *     gcc -std=c99 -Wall -Wextra -pedantic -O3 -ffp-contract=off
@@ -125,6 +126,20 @@ static int64_t near_of_refinement_sum(int64_t v)
     return nearest((int64_t)(raised / 64) - BOUND, raised % 64 == 0);
 }
 
+/*
+ * near(1,000 v / 2U^3) of a slope sum, in the same way. Slope numerators of either sign add up
+ * to U^2 + 2aU - 2a^2, at most 3U^2 / 2 at a = U/2, and near of a basis sum is in range. So v and
+ * its partial sums stay within BOUND * 3U^2, and at U = 512 |1,000 v| < 3.2e18 < 2^62. Here 2^62
+ * is added before, a multiple of 2U^3: the dividend stays below 3.2e18 + 4.7e18 + 1.4e8 < 2^63.
+ */
+static int64_t near_of_slope_sum(int64_t v, unsigned shift)
+{
+    int64_t cube = INT64_C(1) << 3 * shift, lift = INT64_C(1) << 62;
+    uint64_t raised = (uint64_t)(1000 * v + lift + cube);
+    return nearest((int64_t)(raised >> (3 * shift + 1)) - (lift >> (3 * shift + 1)),
+                   raised % (uint64_t)(2 * cube) == 0);
+}
+
 /* near of a finite f64's exact value, |q| < 2^52: a fraction is exact in f64. */
 static int64_t near_of_f64(double q)
 {
@@ -150,7 +165,7 @@ static void basis_numerators(int64_t unit, int64_t a, int64_t numerator[4])
  * Where a position lies on one axis. Cell c uses control indices c-1 to c+2,
  * which are stored from place c on.
  */
-typedef struct { size_t cell; int64_t numerator[4]; } axis_place;
+typedef struct { size_t cell; int64_t offset, numerator[4]; } axis_place;
 
 static axis_place place_on_axis(size_t position, size_t cells, unsigned shift)
 {
@@ -158,15 +173,16 @@ static axis_place place_on_axis(size_t position, size_t cells, unsigned shift)
     place.cell = position >> shift;
     if (place.cell == cells)        /* the far edge belongs to the last cell, with a = U */
         place.cell--;
-    basis_numerators(INT64_C(1) << shift, (int64_t)(position - (place.cell << shift)),
-                     place.numerator);
+    place.offset = (int64_t)(position - (place.cell << shift));
+    basis_numerators(INT64_C(1) << shift, place.offset, place.numerator);
     return place;
 }
 
-static int64_t sum_of_four(const int64_t numerator[4], const int64_t *value)
+/* Of four values that lie stride places apart. */
+static int64_t sum_of_four(const int64_t numerator[4], const int64_t *value, size_t stride)
 {
-    return numerator[0] * value[0] + numerator[1] * value[1]
-         + numerator[2] * value[2] + numerator[3] * value[3];
+    return numerator[0] * value[0] + numerator[1] * value[stride]
+         + numerator[2] * value[2 * stride] + numerator[3] * value[3 * stride];
 }
 
 /* The height in its two steps, of a lattice with width control values a row. */
@@ -176,28 +192,78 @@ static int64_t height_in_cell(const int64_t *lattice, size_t width, unsigned shi
     const int64_t *corner = lattice + y->cell * width + x->cell;
     int64_t row[4];
     for (size_t l = 0; l < 4; l++)
-        row[l] = near_of_basis_sum(sum_of_four(x->numerator, corner + l * width), shift);
-    return near_of_basis_sum(sum_of_four(y->numerator, row), shift);
+        row[l] = near_of_basis_sum(sum_of_four(x->numerator, corner + l * width, 1), shift);
+    return near_of_basis_sum(sum_of_four(y->numerator, row, 1), shift);
+}
+
+/* The refusals of a single height, and with them those of a slope: "6 covers the lattice first, then 5". */
+static verdict check_position(size_t m, size_t n, unsigned shift,
+                              const int64_t *lattice, size_t lattice_len, size_t x, size_t y)
+{
+    if (!cells_allowed(m, n, MAX_CELLS))
+        return (verdict){ 1, 0 };
+    if (shift == 0)
+        return (verdict){ 2, 0 };
+    size_t places = lattice_places(m, n);
+    if (lattice_len < places)
+        return (verdict){ 4, 0 };
+    size_t bad = first_out_of_range(lattice, places);
+    if (bad < places)
+        return (verdict){ 6, bad };
+    if (x > m << shift || y > n << shift)
+        return (verdict){ 5, 0 };
+    return (verdict){ 0, 0 };
 }
 
 ref_height ref_height_at(size_t m, size_t n, size_t unit,
                          const int64_t *lattice, size_t lattice_len, size_t x, size_t y)
 {
     unsigned shift = shift_of_unit(unit);
-    if (!cells_allowed(m, n, MAX_CELLS))
-        return (ref_height){ .number = 1 };
-    if (shift == 0)
-        return (ref_height){ .number = 2 };
-    size_t places = lattice_places(m, n);
-    if (lattice_len < places)
-        return (ref_height){ .number = 4 };
-    size_t bad = first_out_of_range(lattice, places);
-    if (bad < places)
-        return (ref_height){ .number = 6, .place = bad };
-    if (x > m << shift || y > n << shift)
-        return (ref_height){ .number = 5 };
+    verdict bad = check_position(m, n, shift, lattice, lattice_len, x, y);
+    if (bad.number != 0)
+        return (ref_height){ .number = bad.number, .place = bad.place };
     axis_place on_x = place_on_axis(x, m, shift), on_y = place_on_axis(y, n, shift);
     return (ref_height){ .height = height_in_cell(lattice, m + 3, shift, &on_x, &on_y) };
+}
+
+/* ---- Slope ---- */
+
+/* The four slope numerators over 2U^3 at offset a of a cell. */
+static void slope_numerators(int64_t unit, int64_t a, int64_t numerator[4])
+{
+    int64_t back = unit - a;
+    numerator[0] = -(back * back);
+    numerator[1] = 3 * a * a - 4 * a * unit;
+    numerator[2] = -3 * a * a + 2 * a * unit + unit * unit;
+    numerator[3] = a * a;
+}
+
+/*
+ * The slope along the axis own in its two steps, in the cell whose first control value is corner.
+ * Neighbours lie along places apart on the axis own, and across places apart on the other.
+ */
+static int64_t slope_in_cell(const int64_t *corner, size_t along, size_t across, unsigned shift,
+                             const axis_place *own, const axis_place *other)
+{
+    int64_t numerator[4], line[4];
+    for (size_t k = 0; k < 4; k++)
+        line[k] = near_of_basis_sum(sum_of_four(other->numerator, corner + k * along, across), shift);
+    slope_numerators(INT64_C(1) << shift, own->offset, numerator);
+    return near_of_slope_sum(sum_of_four(numerator, line, 1), shift);
+}
+
+ref_slope ref_slope_at(size_t m, size_t n, size_t unit,
+                       const int64_t *lattice, size_t lattice_len, size_t x, size_t y)
+{
+    unsigned shift = shift_of_unit(unit);
+    verdict bad = check_position(m, n, shift, lattice, lattice_len, x, y);
+    if (bad.number != 0)
+        return (ref_slope){ .number = bad.number, .place = bad.place };
+    axis_place on_x = place_on_axis(x, m, shift), on_y = place_on_axis(y, n, shift);
+    size_t width = m + 3;
+    const int64_t *corner = lattice + on_y.cell * width + on_x.cell;
+    return (ref_slope){ .along_x = slope_in_cell(corner, 1, width, shift, &on_x, &on_y),
+                        .along_y = slope_in_cell(corner, width, 1, shift, &on_y, &on_x) };
 }
 
 /* ---- Refinement ---- */
@@ -811,7 +877,12 @@ size_t ref_level_places(size_t m0, size_t n0, size_t k)
     return lattice_places(m0 << k, n0 << k);
 }
 
-ref_wide ref_surface(size_t m, size_t n, size_t unit, const int64_t *lattice, size_t x, size_t y)
+/* The four numerators of one axis, for a height or for a slope. */
+typedef void numerators(int64_t unit, int64_t a, int64_t numerator[4]);
+
+/* The double sum of products of numerators and control values. */
+static ref_wide double_sum(size_t m, size_t n, size_t unit, const int64_t *lattice, size_t x, size_t y,
+                           numerators *of_x, numerators *of_y)
 {
     size_t cell_x = x / unit, cell_y = y / unit;
     if (cell_x == m)                /* the far edge again; here U may be no power of two */
@@ -819,13 +890,18 @@ ref_wide ref_surface(size_t m, size_t n, size_t unit, const int64_t *lattice, si
     if (cell_y == n)
         cell_y--;
     int64_t on_x[4], on_y[4];
-    basis_numerators((int64_t)unit, (int64_t)(x - cell_x * unit), on_x);
-    basis_numerators((int64_t)unit, (int64_t)(y - cell_y * unit), on_y);
+    of_x((int64_t)unit, (int64_t)(x - cell_x * unit), on_x);
+    of_y((int64_t)unit, (int64_t)(y - cell_y * unit), on_y);
     ref_wide sum = 0;
     for (size_t l = 0; l < 4; l++)
         for (size_t k = 0; k < 4; k++)
             sum += (ref_wide)(on_x[k] * on_y[l]) * lattice[(cell_y + l) * (m + 3) + cell_x + k];
     return sum;
+}
+
+ref_wide ref_surface(size_t m, size_t n, size_t unit, const int64_t *lattice, size_t x, size_t y)
+{
+    return double_sum(m, n, unit, lattice, x, y, basis_numerators, basis_numerators);
 }
 
 ref_wide ref_D(size_t h)
@@ -867,4 +943,35 @@ int ref_demand3_holds(size_t m0, size_t n0, size_t h, int64_t *const *levels, co
     if (off < 0)
         off = -off;
     return off <= (ref_wide)(h + 2) * d;
+}
+
+/*
+ * ---- The exact slopes ----
+ *
+ * Why 128 bits suffice. Slope numerators without their signs add up to at most 3U^2, and
+ * numerators to 6U^3, so a double sum is at most 18U^5 times the greatest control value:
+ * with U at most 512, 18 * 2^45 < 2^50, and with heights in range the sum stays below
+ * 2^50 * 2^32 = 2^82, 1,000 times it below 2^92. 12U^6 * slope is below 2^58 * 2^63 = 2^121
+ * for any 64-bit slope, so the difference of the two is below 2^122. The right side,
+ * 9,000 U^5 + 6U^6, is below 2^59 + 2^57 < 2^60.
+ */
+
+ref_wide ref_slope_x_sum(size_t m, size_t n, size_t unit, const int64_t *lattice, size_t x, size_t y)
+{
+    return double_sum(m, n, unit, lattice, x, y, slope_numerators, basis_numerators);
+}
+
+ref_wide ref_slope_y_sum(size_t m, size_t n, size_t unit, const int64_t *lattice, size_t x, size_t y)
+{
+    return double_sum(m, n, unit, lattice, x, y, basis_numerators, slope_numerators);
+}
+
+/* "within 750/U + 1/2 nanometres of the exact one", 1,000 * sum / 12U^6: both sides times 12U^6. */
+int ref_slope_holds(size_t unit, int64_t slope, ref_wide sum)
+{
+    ref_wide u = (ref_wide)unit, fifth = u * u * u * u * u;
+    ref_wide off = 12 * fifth * u * slope - 1000 * sum;
+    if (off < 0)
+        off = -off;
+    return off <= 9000 * fifth + 6 * fifth * u;
 }

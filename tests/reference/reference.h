@@ -1,9 +1,9 @@
 /*
- * A second implementation of the ground lattice of document 01, in plain C99,
- * written from document 01's text alone.
+ * A second implementation of the ground lattice of document 01 and of the slopes
+ * of document 02's first job, in plain C99, written from their text.
  *
- * Every call checks its arguments itself, refuses as document 01 says and then
- * leaves the slices as document 01 says. Any argument may have any value; a
+ * Every call checks its arguments itself, refuses as the documents say and then
+ * leaves the slices as they say. Any argument may have any value; a
  * slice must only hold as many places as its length says, and slices that are
  * written may not overlap any other slice of the call.
  *
@@ -17,6 +17,7 @@
 
 typedef struct { uint64_t number, place, m, n; } ref_cells;
 typedef struct { uint64_t number, place; int64_t height; } ref_height;
+typedef struct { uint64_t number, place; int64_t along_x, along_y; } ref_slope;
 typedef struct { uint64_t number, place, count; } ref_count;
 typedef struct { uint64_t number, place, m0, n0, h, points; } ref_header;
 
@@ -31,6 +32,10 @@ ref_cells ref_fit(size_t m0, size_t n0, size_t h,
 
 ref_height ref_height_at(size_t m, size_t n, size_t unit,
                          const int64_t *lattice, size_t lattice_len, size_t x, size_t y);
+
+/* Both slopes of document 02's job 1, in nanometres per position. */
+ref_slope ref_slope_at(size_t m, size_t n, size_t unit,
+                       const int64_t *lattice, size_t lattice_len, size_t x, size_t y);
 
 ref_cells ref_refine(size_t m, size_t n, const int64_t *lattice, size_t lattice_len,
                      int64_t *output, size_t output_len);
@@ -80,6 +85,18 @@ ref_cells ref_fit_levels(size_t m0, size_t n0, size_t h,
 
 /* The double sum of the exact surface, before its division by 36 * unit^6, for any unit up to 512. */
 ref_wide ref_surface(size_t m, size_t n, size_t unit, const int64_t *lattice, size_t x, size_t y);
+
+/*
+ * The double sums of the exact slopes along x and along y, before their division by 12 * unit^6, for any unit up to 512:
+ * slope numerators along the slope's own axis, numerators along the other, control values. In micrometres per position.
+ */
+ref_wide ref_slope_x_sum(size_t m, size_t n, size_t unit, const int64_t *lattice, size_t x, size_t y);
+ref_wide ref_slope_y_sum(size_t m, size_t n, size_t unit, const int64_t *lattice, size_t x, size_t y);
+
+/*
+ * 1 if a slope is within 750/unit + 1/2 nanometres of the exact one, whose double sum is given, else 0.
+ */
+int ref_slope_holds(size_t unit, int64_t slope, ref_wide sum);
 
 ref_wide ref_D(size_t h);                                                       /* 36 * (16 * 2^h)^6 */
 ref_wide ref_T(size_t m0, size_t n0, size_t h, int64_t *const *levels, size_t x, size_t y);

@@ -37,6 +37,11 @@ static size_t height_at(void)
     return curlew_height_at(CELLS, CELLS, 512, lattice, sizeof lattice / sizeof *lattice, 262144, 262144).number;
 }
 
+static size_t slope_at(void)
+{
+    return curlew_slope_at(CELLS, CELLS, 512, lattice, sizeof lattice / sizeof *lattice, 262144, 262144).number;
+}
+
 static size_t refine(void)
 {
     return curlew_refine(256, 256, whole, CURLEW_CONTROLS(256, 256), lattice, sizeof lattice / sizeof *lattice).number;
@@ -70,8 +75,8 @@ static size_t read_points(void)
 
 /* In an order in which each finds what it reads. */
 static const struct { const char *name; size_t (*run)(void); } calls[] = {
-    { "curlew_fit", fit }, { "curlew_height_at", height_at }, { "curlew_raster", rasters },
-    { "curlew_write_lattice", write_lattice }, { "curlew_read_lattice", read_lattice },
+    { "curlew_fit", fit }, { "curlew_height_at", height_at }, { "curlew_slope_at", slope_at },
+    { "curlew_raster", rasters }, { "curlew_write_lattice", write_lattice }, { "curlew_read_lattice", read_lattice },
     { "curlew_refine", refine }, { "curlew_write_points", write_points }, { "curlew_read_points", read_points },
 };
 

@@ -1,5 +1,5 @@
 
-// Follows the declarations of docs/HOST.md: calls each of the eight functions. m0, n0, h and p all differ, and so do m and n, so that
+// Follows the declarations of docs/HOST.md: calls each of the nine functions. m0, n0, h and p all differ, and so do m and n, so that
 // two fields or two arguments that changed places are seen.
 fn main() {
     let (m0, n0, h, x, y, z) = (4, 3, 1, [0u16, 100], [0u16, 50], [9i64, -7]);
@@ -14,6 +14,14 @@ fn main() {
     assert_eq!((height.number, height.place), (0, 0));
     assert!((height.height + residual[1] - z[1]).abs() <= 3);       // the residual was rounded at each level, the height once
     assert_eq!(height_at(8, 6, 17, &lattice, 0, 0), Height { number: 2, place: 0, height: 0 });
+
+    let slope_at = |lattice: &[i64], x, y| unsafe { curlew_slope_at(8, 6, 16, lattice.as_ptr(), lattice.len(), x, y) };
+    // 1,000 up a cell along x, 3,000 down along y: a sixteenth of it a position, in thousandths
+    let plane: Vec<i64> = (0..99).map(|at| 1000 * (at % 11) - 3000 * (at / 11)).collect();
+    assert_eq!(slope_at(&plane, 100, 50), Slope { number: 0, place: 0, along_x: 62_500, along_y: -187_500 });
+    // as the second implementation answers
+    assert_eq!(slope_at(&lattice, 100, 50), Slope { number: 0, place: 0, along_x: 55, along_y: -22 });
+    assert_eq!(slope_at(&plane, 50, 100), Slope { number: 5, place: 0, along_x: 0, along_y: 0 });
 
     let mut refined = vec![0i64; 19 * 15];
     let cells = unsafe { curlew_refine(8, 6, lattice.as_ptr(), 99, refined.as_mut_ptr(), 19 * 15) };
@@ -38,5 +46,5 @@ fn main() {
     };
     assert_eq!(header, Header { number: 0, place: 0, m0, n0, h, points: 2 });
     assert_eq!((x2, y2, z2), (x, y, z));
-    println!("eight functions called");
+    println!("nine functions called");
 }

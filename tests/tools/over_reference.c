@@ -1,5 +1,5 @@
 /*
- * The eight functions of curlewtable.h, answered by the second implementation (tests/reference). With this in place of the
+ * The nine functions of curlewtable.h, answered by the second implementation (tests/reference). With this in place of the
  * archive the host can be built where the Rattle kit is not, and what it prints over the one can be compared with the other.
  */
 #include "curlewtable.h"
@@ -29,6 +29,13 @@ curlew_height curlew_height_at(size_t m, size_t n, size_t unit, const int64_t *l
 {
     ref_height answer = ref_height_at(m, n, unit, lattice, lattice_len, x, y);
     curlew_height same = { answer.number, answer.place, answer.height };
+    return same;
+}
+
+curlew_slope curlew_slope_at(size_t m, size_t n, size_t unit, const int64_t *lattice, size_t lattice_len, size_t x, size_t y)
+{
+    ref_slope answer = ref_slope_at(m, n, unit, lattice, lattice_len, x, y);
+    curlew_slope same = { answer.number, answer.place, answer.along_x, answer.along_y };
     return same;
 }
 

@@ -1,5 +1,5 @@
 /*
- * The vectors that are calls of the library: heights, refinements, rasters and fits, run on either implementation.
+ * The vectors that are calls of the library: heights, slopes, refinements, rasters and fits, run on either implementation.
  */
 #include "lines.h"
 
@@ -52,18 +52,28 @@ static int same_answer(answer got, list expected, size_t fields, size_t results)
     return memcmp(&wanted, &got, sizeof got) == 0;
 }
 
-/* m n U x y : control values : answer */
-static int height_line(const char *text, runner *run)
+/* m n U x y : control values : answer, with so many fields */
+static int position_line(const char *text, runner *run, function f, size_t fields)
 {
     numbers line = read_numbers(text);
-    call c = call_of(HEIGHT_AT, line.list[0]);
+    call c = call_of(f, line.list[0]);
     int agrees;
 
     check_line(&line, text, 3, 5);
     lend(&c, LATTICE, line.list[1].values, line.list[1].count);
-    agrees = same_answer(run(&c), line.list[2], 1, 0);
+    agrees = same_answer(run(&c), line.list[2], fields, 0);
     free_numbers(&line);
     return agrees;
+}
+
+static int height_line(const char *text, runner *run)
+{
+    return position_line(text, run, HEIGHT_AT, 1);
+}
+
+static int slope_line(const char *text, runner *run)
+{
+    return position_line(text, run, SLOPE_AT, 2);
 }
 
 /* m n : control values : new control values; all are accepted */
@@ -180,6 +190,7 @@ size_t run_calls(const char *folder, runner *run)
     size_t differ = 0;
 
     differ += run_file(folder, "height.txt", height_line, run);
+    differ += run_file(folder, "slope.txt", slope_line, run);
     differ += run_file(folder, "refine.txt", refine_line, run);
     differ += run_file(folder, "raster.txt", raster_line, run);
     differ += run_file(folder, "fit.txt", fit_line, run);

@@ -2,8 +2,9 @@
 use mathlib.Core.Path.{_≡_, refl}
 use mathlib.Core.Logic.{_↔_, _⊎_, inl, inr}
 use mathlib.Core.Bool.{Bool, true, false, not}
-use Prim.Native.Nat.{ℕ, zero, suc, _+_, _*_, _≤_, _<_}
-use native.Mathlib.Nat.{mul-le-mul-left, lt-of-mul-lt-mul-left}
+use Prim.Native.Nat.{ℕ, zero, suc, _+_, _-_, _*_, _≤_, _<_}
+use native.Mathlib.Nat.{mul-le-mul-left, lt-of-mul-lt-mul-left, add-sub-of-le}
+use native.Mathlib.Decide.{decLt}
 use native.Mathlib.Omega.{arith}
 use lib.IntN.{ℤ, pos, negsuc, negℤ, natAbs, _+ℤ_, _-ℤ_, _*ℤ_}
 use lib.Dec.{T}
@@ -70,3 +71,11 @@ pub ≤ℤ-scale : (d : ℕ) {a b : ℤ} → a ≤ℤ b → (pos d *ℤ a) ≤�
 
 pub <ℤ-cancel : (d : ℕ) (a b : ℤ) → (pos d *ℤ a) <ℤ (pos d *ℤ b) → a <ℤ b
 <ℤ-cancel d a b = rw (split a, split b) (simp whole (λ h. lt-of-mul-lt-mul-left d (omega arith)))
+
+-- twice a product is at most the sum of the squares
+pub twice-product : (a b : ℕ) → 2 * (a * b) ≤ a * a + b * b
+twice-product a b = go (decLt a b)
+  where
+    go : Dec (a < b) → 2 * (a * b) ≤ a * a + b * b
+    go (yes l) = let e : a + (b - a) ≡ b = add-sub-of-le (omega arith) in rw (← e) (omega arith)
+    go (no g) = let e : b + (a - b) ≡ a = add-sub-of-le (omega arith) in rw (← e) (omega arith)

@@ -2,13 +2,11 @@
 // U is a power of two, 2^e, so that cells are found by a shift.
 ghost use mathlib.Core.Path.{_≡_};
 ghost use Prim.Native.Nat.{_^_, _≤_, _<_};
-ghost use lib.IntN.{pos, natAbs};
-ghost use lib.ListN.{getD};
-ghost use Rattle.rules.specs.Rounding as rounding;
+ghost use lib.IntN.{natAbs};
 ghost use Rattle.rules.specs.Surface as rule;
-ghost use Rattle.basis.specs.Weighing.{Weighs, Located, numerators, four, weightSize, Weighable};
+ghost use Rattle.basis.specs.Weighing.{Weighs, Located, numerators, four, weightSize, Weighable, lineHeight};
 
-// The four numerators of a position in its cell.
+// Four weights, as the numerators of a position in its cell.
 pub struct Basis {
     pub b0: i64,
     pub b1: i64,
@@ -44,7 +42,7 @@ pub fn basis_of(unit: usize, a: usize) -> Basis
     Basis { b0, b1, b2, b3 }
 }
 
-// The sum of four numerators times four values in range.
+// The sum of four weights times four values in range.
 pub fn weighed(b: Basis, p0: i64, p1: i64, p2: i64, p3: i64) -> i64
     requires { ⌜ weightSize b ≤ 805_306_368 ⌝ }
     requires { ⌜ (natAbs p0 ≤ 4_000_000_000) × (natAbs p1 ≤ 4_000_000_000) × (natAbs p2 ≤ 4_000_000_000) × (natAbs p3 ≤ 4_000_000_000) ⌝ }
@@ -67,19 +65,17 @@ pub fn locate(x: usize, m: usize, e: u32) -> Spot
     }
 }
 
-// One step of a height: near of the sum of the four control values from place q on, over 6U³.
-pub fn row_height(lattice: &[i64], q: usize, b: Basis, e: u32) -> i64
-    requires { ⌜ Weighable (now lattice) q b e ⌝ }
-    ensures { λ r. ⌜ r ≡ rounding.near (rule.weighted (numerators b) (λ s. getD (now (lattice .entry)) s (pos 0)) q) (rule.denominator (2 ^ e)) ⌝ }
+// One step of a height: near of the sum of four control values over 6U³. They stand from place q on, each `apart` places from the one before: 1 for those of
+// a row, the row's width for those of a column.
+pub fn line_height(lattice: &[i64], q: usize, apart: usize, b: Basis, e: u32) -> i64
+    requires { ⌜ Weighable (now lattice) q apart b e ⌝ }
+    ensures { λ r. ⌜ r ≡ lineHeight (now (lattice .entry)) q apart b (2 ^ e) ⌝ }
 {
+    let q1 = q + apart;
+    let q2 = q1 + apart;
+    let q3 = q2 + apart;
     roundings::near_over(
-        weighed(
-            b,
-            lattice[q],
-            lattice[q + 1],
-            lattice[q + 2],
-            lattice[q + 3],
-        ),
+        weighed(b, lattice[q], lattice[q1], lattice[q2], lattice[q3]),
         e,
     )
 }

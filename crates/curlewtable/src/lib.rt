@@ -1,15 +1,16 @@
-// The C boundary: every call of document 01 on numbers and slices, with the contract of the function below it. The header is include/curlewtable.h.
+// The C boundary: every call of documents 01 and 02 on numbers and slices, with the contract of the function below it. The header is include/curlewtable.h.
 ghost use mathlib.Core.Path.{_≡_};
 ghost use Rattle.rules.specs.Fit.{shape, survey};
 ghost use Rattle.rules.specs.Calls as calls;
 ghost use Rattle.rules.specs.Demand3.{CloseEverywhere};
 ghost use Rattle.rules.specs.LatticeFile as latticeFile;
 ghost use Rattle.rules.specs.PointFile as pointFile;
-ghost use Rattle.fields.specs.Fields.{handed, inFields, cellsFields, heightFields, countFields, headerFields};
+ghost use Rattle.fields.specs.Fields.{handed, inFields, cellsFields, heightFields, slopeFields, countFields, headerFields};
 use fields::CellsAnswer;
 use fields::CountAnswer;
 use fields::HeaderAnswer;
 use fields::HeightAnswer;
+use fields::SlopeAnswer;
 
 #[no_mangle]
 pub extern "C" fn curlew_fit(
@@ -42,6 +43,20 @@ pub extern "C" fn curlew_height_at(
     ensures { λ r. ⌜ r ≡ heightFields (calls.heightAnswer m n unit (now (lattice .entry)) x y) ⌝ }
 {
     fields::height(heights::height(m, n, unit, lattice, x, y))
+}
+
+#[no_mangle]
+pub extern "C" fn curlew_slope_at(
+    m: usize,
+    n: usize,
+    unit: usize,
+    lattice: &[i64],
+    x: usize,
+    y: usize,
+) -> SlopeAnswer
+    ensures { λ r. ⌜ r ≡ slopeFields (calls.slopeAnswer m n unit (now (lattice .entry)) x y) ⌝ }
+{
+    fields::slope(slopes::slope(m, n, unit, lattice, x, y))
 }
 
 #[no_mangle]

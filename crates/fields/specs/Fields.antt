@@ -7,6 +7,7 @@ use Rattle.rules.specs.Calls as calls
 use Rattle.rules.specs.PointFile as pointFile
 use Rattle.fields.specs.declared.CellsAnswer.{CellsAnswer}
 use Rattle.fields.specs.declared.HeightAnswer.{HeightAnswer}
+use Rattle.fields.specs.declared.SlopeAnswer.{SlopeAnswer}
 use Rattle.fields.specs.declared.CountAnswer.{CountAnswer}
 use Rattle.fields.specs.declared.HeaderAnswer.{HeaderAnswer}
 
@@ -28,6 +29,10 @@ cellsFields (refused r) = record { number = rule.number r; place = rule.place r;
 abbrev pub heightFields : rule.Answer ℤ → HeightAnswer
 heightFields (accepted z) = record { number = 0; place = 0; height = z }
 heightFields (refused r) = record { number = rule.number r; place = rule.place r; height = pos 0 }
+
+abbrev pub slopeFields : rule.Answer calls.Slopes → SlopeAnswer
+slopeFields (accepted s) = record { number = 0; place = 0; «along_x» = s .along-x; «along_y» = s .along-y }
+slopeFields (refused r) = record { number = rule.number r; place = rule.place r; «along_x» = pos 0; «along_y» = pos 0 }
 
 abbrev pub countFields : rule.Answer ℕ → CountAnswer
 countFields (accepted q) = record { number = 0; place = 0; count = q }

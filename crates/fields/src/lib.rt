@@ -3,12 +3,14 @@ ghost use mathlib.Core.Path.{_≡_};
 ghost use Rattle.answers.specs.CellsTold as cellsTold;
 ghost use Rattle.answers.specs.CountTold as countTold;
 ghost use Rattle.heights.specs.Reading as reading;
+ghost use Rattle.slopes.specs.Sloping as sloped;
 ghost use Rattle.point_records.specs.Read as pointsRead;
-ghost use Rattle.fields.specs.Fields.{cellsFields, heightFields, countFields, headerFields};
+ghost use Rattle.fields.specs.Fields.{cellsFields, heightFields, slopeFields, countFields, headerFields};
 use answers::CellsTold;
 use answers::CountTold;
 use heights::Reading;
 use point_records::PointsRead;
+use slopes::Sloped;
 
 #[repr(C)]
 pub struct CellsAnswer {
@@ -23,6 +25,14 @@ pub struct HeightAnswer {
     pub number: usize,
     pub place: usize,
     pub height: i64,
+}
+
+#[repr(C)]
+pub struct SlopeAnswer {
+    pub number: usize,
+    pub place: usize,
+    pub along_x: i64,
+    pub along_y: i64,
 }
 
 #[repr(C)]
@@ -42,10 +52,10 @@ pub struct HeaderAnswer {
     pub points: usize,
 }
 
-pub fn cells(told: CellsTold) -> CellsAnswer
-    ensures { λ r. ⌜ r ≡ cellsFields (cellsTold.told told) ⌝ }
+pub fn cells(answer: CellsTold) -> CellsAnswer
+    ensures { λ r. ⌜ r ≡ cellsFields (cellsTold.told answer) ⌝ }
 {
-    match told {
+    match answer {
         CellsTold::Cells(m, n) => CellsAnswer {
             number: 0,
             place: 0,
@@ -61,10 +71,10 @@ pub fn cells(told: CellsTold) -> CellsAnswer
     }
 }
 
-pub fn height(told: Reading) -> HeightAnswer
-    ensures { λ r. ⌜ r ≡ heightFields (reading.told told) ⌝ }
+pub fn height(answer: Reading) -> HeightAnswer
+    ensures { λ r. ⌜ r ≡ heightFields (reading.told answer) ⌝ }
 {
-    match told {
+    match answer {
         Reading::Height(z) => HeightAnswer {
             number: 0,
             place: 0,
@@ -78,10 +88,29 @@ pub fn height(told: Reading) -> HeightAnswer
     }
 }
 
-pub fn count(told: CountTold) -> CountAnswer
-    ensures { λ r. ⌜ r ≡ countFields (countTold.told told) ⌝ }
+pub fn slope(answer: Sloped) -> SlopeAnswer
+    ensures { λ r. ⌜ r ≡ slopeFields (sloped.told answer) ⌝ }
 {
-    match told {
+    match answer {
+        Sloped::Slopes(s) => SlopeAnswer {
+            number: 0,
+            place: 0,
+            along_x: s.along_x,
+            along_y: s.along_y,
+        },
+        Sloped::Refused(r) => SlopeAnswer {
+            number: answers::number(r),
+            place: answers::place(r),
+            along_x: 0,
+            along_y: 0,
+        },
+    }
+}
+
+pub fn count(answer: CountTold) -> CountAnswer
+    ensures { λ r. ⌜ r ≡ countFields (countTold.told answer) ⌝ }
+{
+    match answer {
         CountTold::Count(q) => CountAnswer {
             number: 0,
             place: 0,
@@ -95,10 +124,10 @@ pub fn count(told: CountTold) -> CountAnswer
     }
 }
 
-pub fn header(told: PointsRead) -> HeaderAnswer
-    ensures { λ r. ⌜ r ≡ headerFields (pointsRead.told told) ⌝ }
+pub fn header(answer: PointsRead) -> HeaderAnswer
+    ensures { λ r. ⌜ r ≡ headerFields (pointsRead.told answer) ⌝ }
 {
-    match told {
+    match answer {
         PointsRead::Header(a) => HeaderAnswer {
             number: 0,
             place: 0,

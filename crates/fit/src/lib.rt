@@ -7,7 +7,6 @@ ghost use Rattle.rules.specs.Calls.{lent, fitCall};
 ghost use Rattle.rules.specs.Demand3.{Demand3};
 ghost use Rattle.answers.specs.CellsTold.{told};
 use answers::CellsTold;
-use answers::Refusal;
 use answers::Verdict;
 
 // A fit, behind document 01's checks in their order. After them the scratch is used, and cleared whatever the levels answer.

@@ -31,15 +31,15 @@ pub fn height_within(m: usize, n: usize, e: u32, lattice: &[i64], x: usize, y: u
     let q1 = q0 + w;
     let q2 = q1 + w;
     let q3 = q2 + w;
-    let r0 = basis::row_height(lattice, q0, bx, e);
-    let r1 = basis::row_height(lattice, q1, bx, e);
-    let r2 = basis::row_height(lattice, q2, bx, e);
-    let r3 = basis::row_height(lattice, q3, bx, e);
+    let r0 = basis::line_height(lattice, q0, 1, bx, e);
+    let r1 = basis::line_height(lattice, q1, 1, bx, e);
+    let r2 = basis::line_height(lattice, q2, 1, bx, e);
+    let r3 = basis::line_height(lattice, q3, 1, bx, e);
     roundings::near_over(basis::weighed(by, r0, r1, r2, r3), e)
 }
 
-// The checks of a height in document 01's order: 1, 2, 4, 6 and 5.
-fn readable(m: usize, n: usize, unit: usize, lattice: &[i64], x: usize, y: usize) -> Readiness
+// The checks of a height, and of a slope, in document 01's order: 1, 2, 4, 6 and 5.
+pub fn readable(m: usize, n: usize, unit: usize, lattice: &[i64], x: usize, y: usize) -> Readiness
     ensures { λ r. ⌜ Tells (heightCheck m n unit (now (lattice .entry)) x y) unit (λ e. Readable m n e (now (lattice .entry)) x y) r ⌝ }
 {
     let grid = checks::gridded(m, n, unit);

@@ -1,9 +1,11 @@
-// near over the divisors that the surface has, without a general division: a power of two by a shift, and 6U³ = 3·2^(3e+1) for U = 2^e by a shift and a division by 3.
+// near over the divisors that the surface and its slopes have, without a general division: a power of two, which 2U³ is for U = 2^e, by a shift, and
+// 6U³ = 3·2^(3e+1) by a shift and a division by 3.
 ghost use mathlib.Core.Path.{_≡_};
 ghost use Prim.Native.Nat.{_^_, _≤_};
 ghost use lib.IntN.{natAbs};
 ghost use Rattle.rules.specs.Rounding.{floor, near};
 ghost use Rattle.rules.specs.Surface.{denominator};
+ghost use Rattle.rules.specs.Slope.{slopeDenominator};
 
 // near(v / 2^s)
 pub fn near_shift(v: i64, s: u32) -> i64
@@ -28,4 +30,12 @@ pub fn near_over(v: i64, e: u32) -> i64
 {
     let s = 3 * e;
     third((v + (3 << s)) >> (s + 1))
+}
+
+// near(v / 2U³)
+pub fn near_over_slope(v: i64, e: u32) -> i64
+    requires { ⌜ (natAbs v ≤ 3_221_225_472_000_000_000) × (e ≤ 9) ⌝ }
+    ensures { λ r. ⌜ r ≡ near v (slopeDenominator (2 ^ e)) ⌝ }
+{
+    near_shift(v, 3 * e + 1)
 }

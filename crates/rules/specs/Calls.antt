@@ -1,4 +1,4 @@
--- The calls of document 01 on lent slices: each one's checks in their order, and then its answer and what its slices hold afterwards. Definitions only.
+-- The calls of documents 01 and 02 on lent slices: each one's checks in their order, and then its answer and what its slices hold afterwards. Definitions only.
 -- Files have theirs in LatticeFile and PointFile, the program in Program.
 use Prim.Native.Nat.{ℕ, zero, suc, _+_, _*_, _/_, _%_}
 use mathlib.Core.Bool.{_&&_, _||_, cond}
@@ -11,6 +11,7 @@ use lib.ListN.{length, replicate}
 use Rattle.algebra.specs.Table.{tabulate, over}
 use Rattle.rules.specs.Grid.{within, inRange, inside, controls, control, store}
 use Rattle.rules.specs.Surface.{height}
+use Rattle.rules.specs.Slope.{slopeX, slopeY}
 use Rattle.rules.specs.Level.{Point, zero64}
 use Rattle.rules.specs.Refinement.{refined}
 use Rattle.rules.specs.Fit.{Shape, columns, rows, Survey, pointCount, pointAt, singleLattice, lastResiduals, levelsCheck}
@@ -68,6 +69,18 @@ heightCheck m n U lattice x y =
 
 unfoldable pub heightAnswer : ℕ → ℕ → ℕ → List ℤ → ℕ → ℕ → Answer ℤ
 heightAnswer m n U lattice x y = answer (heightCheck m n U lattice x y) (height U m n (control m lattice) x y)
+
+-- ---- slope, of document 02
+
+-- both slopes at a position
+pub record Slopes : Type 0 where
+  pub along-x : ℤ
+  pub along-y : ℤ
+
+-- "Positions and lattices are refused as for heights."
+unfoldable pub slopeAnswer : ℕ → ℕ → ℕ → List ℤ → ℕ → ℕ → Answer Slopes
+slopeAnswer m n U lattice x y =
+    answer (heightCheck m n U lattice x y) (record { along-x = slopeX U m n (control m lattice) x y; along-y = slopeY U m n (control m lattice) x y })
 
 -- ---- refinement: "m by n cells become 2m by 2n; the input has 1 to 256 a side"
 

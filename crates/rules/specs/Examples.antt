@@ -1,4 +1,4 @@
--- "Table of checked examples" of document 01: E1 to E8 and the three near examples, as one computed table.
+-- "Table of checked examples" of document 01: E1 to E8 and the three near examples, with slopes that tell the order of their roundings, as one computed table.
 use Prim.Native.Nat.{ℕ, zero, suc, _+_, _/_, _%_}
 use mathlib.Core.Bool.{Bool, true, false, _&&_, cond}
 use mathlib.Core.List.{List, [], _∷_}
@@ -7,6 +7,7 @@ use lib.IntN.{ℤ, pos, negsuc, negℤ}
 use Rattle.rules.specs.Rounding.{floor, near}
 use Rattle.rules.specs.Grid.{Lattice}
 use Rattle.rules.specs.Surface.{square, cube, numerator, denominator, cell, offset, weighted, along, height}
+use Rattle.rules.specs.Slope.{slopeNumerator, slopeDenominator, slopeAlong, slopeX, slopeY}
 use Rattle.rules.specs.Refinement.{masked, finer, finer2, refined}
 
 -- "one control value set, others 0": v in column s and row t, which are the indices (s - 1, t - 1)
@@ -69,9 +70,15 @@ table =
     ∷ (pos (nonzero (single 1 1 (pos 1)) 25) is pos 1)
     -- E8 (0,0)=-32: new (2,2) is 0
     ∷ (refinedAt (single 1 1 (negℤ (pos 32))) 2 2 is pos 0)
+    -- slopes, (-1,-1)=3, at (0,0): near of its column, and of its row, is 1, so each is near of -1,000/32; without that first rounding it were -16
+    ∷ (slopeX 16 1 1 (single 0 0 (pos 3)) 0 0 is negℤ (pos 31))
+    ∷ (slopeY 16 1 1 (single 0 0 (pos 3)) 0 0 is negℤ (pos 31))
+    -- (-1,0)=3: the columns are 2 and 0, the rows 0, 1 and 0
+    ∷ (slopeX 16 1 1 (single 0 1 (pos 3)) 0 0 is negℤ (pos 62))
+    ∷ (slopeY 16 1 1 (single 0 1 (pos 3)) 0 0 is pos 0)
     ∷ []
 
 -- the whole table, computed
 pub examples : T (allHold table)
-unfolding table allHold _is_ equal single heightOf refinedAt nonzero floor near square cube numerator denominator cell offset weighted along height masked finer finer2 refined
+unfolding table allHold _is_ equal single heightOf refinedAt nonzero floor near square cube numerator denominator cell offset weighted along height masked finer finer2 refined slopeNumerator slopeDenominator slopeAlong slopeX slopeY
 examples = tt

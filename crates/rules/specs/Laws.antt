@@ -4,6 +4,7 @@ pub mod Checks
 pub mod Passed
 pub mod Rounding
 pub mod Surface
+pub mod Slope
 pub mod TwoScale
 pub mod Fit
 pub mod Levels

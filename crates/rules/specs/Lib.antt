@@ -1,6 +1,7 @@
 pub mod Rounding
 pub mod Grid
 pub mod Surface
+pub mod Slope
 pub mod Level
 pub mod Refinement
 pub mod Fit

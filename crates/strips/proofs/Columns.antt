@@ -9,11 +9,9 @@ use lib.IntN.{ℤ, pos, natAbs}
 use lib.ListN.{length, getD, set, length-set}
 use lib.Seq.{getD-set-same, getD-set-other}
 use Rattle.machine.specs.Held.{read, itself}
-use Rattle.rules.specs.Rounding.{near}
-use Rattle.rules.specs.Surface.{denominator, weighted}
 use Rattle.rules.specs.Laws.Passed.{edge-fits}
-use Rattle.basis.specs.Weighing.{numerators, weightSize, Weighable}
-use Rattle.basis.specs.Sums.{On, Based, on-grid, back, row-asked, row-is}
+use Rattle.basis.specs.Weighing.{weightSize, Weighable, lineHeight}
+use Rattle.basis.specs.Sums.{On, Based, on-grid, back, row-asked, line-weight, row-is}
 use Rattle.basis.specs.declared.Basis.{Basis}
 use Rattle.strips.specs.Strips.{columnX, StripInside, tapsAt, put, basisBack, Taps, Tapped, columnSum}
 use Rattle.strips.specs.declared.Strip.{Strip}
@@ -89,20 +87,20 @@ tapped-more s i cells taps {b} {k} h c t w had new j l = go (decLt j i)
 
 -- ---- the sum of a lattice row at a column
 
--- what `row_height` asks and returns of column i and lattice row r, with the numerators that are read back
+-- what `line_height` asks and returns of column i and lattice row r, with the numerators that are read back
 module _ {s : Strip} {l : List ℤ} {cells : List ℕ} {taps : List ℤ} (t : Tapped s l cells taps) (r i : ℕ) (h : r < s .n + 3) (k : i < s .w) where
   abbrev q : ℕ
   q = r * (s .m + 3) + getD cells i 0
 
-  pub asked : Weighable l q (tapsAt taps i) (s .e)
+  pub asked : Weighable l q 1 (tapsAt taps i) (s .e)
   asked = row-asked (t .ground) (on-column (t .columns) i k) (t .tapped i k) r q h refl
 
   module _ {b : Basis} (is : b ≡ basisBack (tapsAt taps i)) where
     same : b ≡ tapsAt taps i
-    same = is ∙ basis-back (tapsAt taps i) (asked .weight-most)
+    same = is ∙ basis-back (tapsAt taps i) (line-weight asked)
 
-    pub asked-back : Weighable l q b (s .e)
+    pub asked-back : Weighable l q 1 b (s .e)
     asked-back = rw same asked
 
-    pub sum-back : near (weighted (numerators b) (λ p. getD l p (pos 0)) q) (denominator (2 ^ s .e)) ≡ columnSum s l r i
+    pub sum-back : lineHeight l q 1 b (2 ^ s .e) ≡ columnSum s l r i
     sum-back = rw same (row-is (t .tapped i k) l r q refl)

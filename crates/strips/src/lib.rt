@@ -87,7 +87,7 @@ fn tap_sum(
 {
     let b = load_taps(taps, i);
     let c = cells[i];
-    basis::row_height(lattice, r * (s.m + 3) + c, b, s.e)
+    basis::line_height(lattice, r * (s.m + 3) + c, 1, b, s.e)
 }
 
 // The ring with lattice row r summed too.

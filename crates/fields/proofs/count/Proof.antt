@@ -6,11 +6,11 @@ use Rattle.fields.specs.Fields.{countFields}
 use Rattle.fields.proofs.count.Statement.{statement}
 use Rattle.fields.proofs.count.Tie as tie
 
-enum-known-told : tie.Need-enum-known-told
-enum-known-told c = search needs
+enum-known-answer : tie.Need-enum-known-answer
+enum-known-answer c = search needs
 
-enum-known-told-2 : tie.Need-enum-known-told-2
-enum-known-told-2 c = search needs
+enum-known-answer-2 : tie.Need-enum-known-answer-2
+enum-known-answer-2 c = search needs
 
 number-requires : tie.Need-number-requires
 number-requires c κs = search needs
@@ -19,13 +19,13 @@ place-requires : tie.Need-place-requires
 place-requires c κs = search needs
 
 returns : tie.Need-returns
-returns c = ap (λ t. countFields (told t)) (sym (c .before .told .given .1))
+returns c = ap (λ t. countFields (told t)) (sym (c .before .answer .given .1))
 
 returns-2 : tie.Need-returns-2
 returns-2 c =
-    rw (c .before .number .ensures, c .place .ensures) (ap (λ t. countFields (told t)) (sym (c .before .before .before .told2 .given .1)))
+    rw (c .before .number .ensures, c .place .ensures) (ap (λ t. countFields (told t)) (sym (c .before .before .before .answer2 .given .1)))
 
 pub count-spec : {M : Type 1} → statement M
 count-spec =
     tie.close
-    (tie.spec enum-known-told enum-known-told-2 number-requires place-requires returns returns-2)
+    (tie.spec enum-known-answer enum-known-answer-2 number-requires place-requires returns returns-2)

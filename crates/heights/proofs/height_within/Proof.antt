@@ -4,12 +4,10 @@ use mathlib.Core.Path.{_≡_, _∙_}
 use Prim.Native.Nat.{ℕ, _+_, _*_, _^_, _≤_, _<_}
 use native.Mathlib.Omega.{arith}
 use borrow.Author.Needs.{needs}
-use lib.IntN.{ℤ, pos, natAbs}
-use lib.ListN.{getD}
-use Rattle.rules.specs.Rounding.{near}
+use lib.IntN.{ℤ, natAbs}
 use Rattle.rules.specs.Grid.{controls}
-use Rattle.rules.specs.Surface.{denominator, weighted}
-use Rattle.basis.specs.Weighing.{numerators, Weighable}
+use Rattle.rules.specs.Surface.{denominator}
+use Rattle.basis.specs.Weighing.{numerators, Weighable, lineHeight}
 use Rattle.basis.specs.Sums.{Based, unit-shifted, basis-asked, placed, placed-below, weight-most, four-small, step-is, rowHeight, on-x, on-y, row-asked, row-within, last-place, row-is, height-is}
 use Rattle.basis.specs.declared.Basis.{Basis}
 use Rattle.heights.proofs.height_within.Statement.{statement}
@@ -45,7 +43,7 @@ module _ (c : tie.After-basis-of2) where
   stored : cy * w + cx + w + w + w + 3 < controls (start .args .m) (start .args .n)
   stored = last-place (start .pre) across up
 
-  asked : (t q : ℕ) → t < cy + 4 → q ≡ t * w + cx → Weighable (start .args .lattice .now) q bx (start .args .e)
+  asked : (t q : ℕ) → t < cy + 4 → q ≡ t * w + cx → Weighable (start .args .lattice .now) q 1 bx (start .args .e)
   asked t q h is = row-asked (start .pre .ground) (on-x (start .pre)) across t q (omega (arith, placed-below (on-y (start .pre)) up)) is
 
   -- the height of row t
@@ -56,26 +54,26 @@ module _ (c : tie.After-basis-of2) where
   unfolding row
   row-ranged t h k = row-within (start .pre .ground) (start .pre .x-inside) t (omega (arith, placed-below (on-y (start .pre)) up))
 
-  -- what `row_height` returned for row t
-  row-told : (t q : ℕ) {z : ℤ} → q ≡ t * w + cx → z ≡ near (weighted (numerators bx) (λ p. getD (start .args .lattice .now) p (pos 0)) q) (denominator (2 ^ start .args .e)) → z ≡ row t
+  -- what `line_height` returned for row t
+  row-told : (t q : ℕ) {z : ℤ} → q ≡ t * w + cx → z ≡ lineHeight (start .args .lattice .now) q 1 bx (2 ^ start .args .e) → z ≡ row t
   unfolding row
   row-told t q i e = e ∙ row-is across (start .args .lattice .now) t q i
 
-module _ (c : tie.After-row-height4) where
+module _ (c : tie.After-line-height4) where
   abbrev axes : tie.After-basis-of2
   axes = c .before .before .before .before .before .before
 
-  row0-is : c .before .before .before .row-height .result ≡ row axes (cy axes)
-  row0-is = row-told axes (cy axes) _ (omega arith) (c .before .before .before .row-height .ensures)
+  row0-is : c .before .before .before .line-height .result ≡ row axes (cy axes)
+  row0-is = row-told axes (cy axes) _ (omega arith) (c .before .before .before .line-height .ensures)
 
-  row1-is : c .before .before .row-height2 .result ≡ row axes (cy axes + 1)
-  row1-is = row-told axes (cy axes + 1) _ (omega arith) (c .before .before .row-height2 .ensures)
+  row1-is : c .before .before .line-height2 .result ≡ row axes (cy axes + 1)
+  row1-is = row-told axes (cy axes + 1) _ (omega arith) (c .before .before .line-height2 .ensures)
 
-  row2-is : c .before .row-height3 .result ≡ row axes (cy axes + 2)
-  row2-is = row-told axes (cy axes + 2) _ (omega arith) (c .before .row-height3 .ensures)
+  row2-is : c .before .line-height3 .result ≡ row axes (cy axes + 2)
+  row2-is = row-told axes (cy axes + 2) _ (omega arith) (c .before .line-height3 .ensures)
 
-  row3-is : c .row-height4 .result ≡ row axes (cy axes + 3)
-  row3-is = row-told axes (cy axes + 3) _ (omega arith) (c .row-height4 .ensures)
+  row3-is : c .line-height4 .result ≡ row axes (cy axes + 3)
+  row3-is = row-told axes (cy axes + 3) _ (omega arith) (c .line-height4 .ensures)
 
 -- ---- what it returns
 
@@ -84,7 +82,7 @@ unfolding row
 returns c =
     let d = c .before .before in
     let a = axes d in
-    step-is (row a) (cy a) (row-ranged a) (row0-is d) (row1-is d) (row2-is d) (row3-is d) (numerators (by a)) (2 ^ start a .args .e)
+    step-is (row a) (cy a) (row-ranged a) (row0-is d) (row1-is d) (row2-is d) (row3-is d) (numerators (by a)) (denominator (2 ^ start a .args .e))
     (c .before .weighed .ok) (c .before .weighed .ensures .0) (c .near-over .ok) (c .near-over .ensures)
     ∙ height-is (up a) _ _ _
 
@@ -123,17 +121,17 @@ add-q2 c = omega (arith, stored (c .before .before))
 add-q3 : tie.Need-add-q3
 add-q3 c = omega (arith, stored (c .before .before))
 
-row-height-requires : tie.Need-row-height-requires
-row-height-requires c κs = let a = c .before .before in asked a (cy a) _ (omega arith) (omega arith)
+line-height-requires : tie.Need-line-height-requires
+line-height-requires c κs = let a = c .before .before in asked a (cy a) _ (omega arith) (omega arith)
 
-row-height-requires-2 : tie.Need-row-height-requires-2
-row-height-requires-2 c κs = let a = c .before .before .before in asked a (cy a + 1) _ (omega arith) (omega arith)
+line-height-requires-2 : tie.Need-line-height-requires-2
+line-height-requires-2 c κs = let a = c .before .before .before in asked a (cy a + 1) _ (omega arith) (omega arith)
 
-row-height-requires-3 : tie.Need-row-height-requires-3
-row-height-requires-3 c κs = let a = c .before .before .before .before in asked a (cy a + 2) _ (omega arith) (omega arith)
+line-height-requires-3 : tie.Need-line-height-requires-3
+line-height-requires-3 c κs = let a = c .before .before .before .before in asked a (cy a + 2) _ (omega arith) (omega arith)
 
-row-height-requires-4 : tie.Need-row-height-requires-4
-row-height-requires-4 c κs = let a = c .before .before .before .before .before in asked a (cy a + 3) _ (omega arith) (omega arith)
+line-height-requires-4 : tie.Need-line-height-requires-4
+line-height-requires-4 c κs = let a = c .before .before .before .before .before in asked a (cy a + 3) _ (omega arith) (omega arith)
 
 weighed-requires : tie.Need-weighed-requires
 weighed-requires c κs =
@@ -157,10 +155,10 @@ height-within-spec =
     add-q1
     add-q2
     add-q3
-    row-height-requires
-    row-height-requires-2
-    row-height-requires-3
-    row-height-requires-4
+    line-height-requires
+    line-height-requires-2
+    line-height-requires-3
+    line-height-requires-4
     weighed-requires
     near-over-requires
     returns)

@@ -10,15 +10,14 @@ use Rattle.rules.specs.Rounding.{floor, near}
 use Rattle.rules.specs.Surface.{denominator}
 use Rattle.rules.specs.Laws.Rounding.{floor-floor, near-even}
 use Rattle.roundings.proofs.Halved.{sum, over, floored}
+use Rattle.roundings.proofs.Powers.{cubed}
 use Rattle.roundings.proofs.near_over.Statement.{statement}
 use Rattle.roundings.proofs.near_over.Tie as tie
 
 -- 6U³ as the code has it
 denominator-power : (e : ℕ) → denominator (2 ^ e) ≡ 2 * (3 * 2 ^ (3 * e))
 unfolding denominator
-denominator-power e =
-    let cubed : 2 ^ (3 * e) ≡ 2 ^ e * 2 ^ e * 2 ^ e = ap (λ k. 2 ^ k) (omega arith) ∙ pow-add 2 (e + e) e ∙ ap (λ q. q * 2 ^ e) (pow-add 2 e e) in
-    rw cubed (omega arith)
+denominator-power e = rw (cubed e) (omega arith)
 
 near-shift : (v : ℤ) (e : ℕ) → floor (floor (v +ℤ pos (3 * 2 ^ (3 * e))) (2 ^ (3 * e + 1))) 3 ≡ near v (denominator (2 ^ e))
 near-shift v e =

@@ -1,12 +1,12 @@
 -- Laws of "Basis and height" along one axis, for any U: the numerators are weights that add up to 6U³, a position has its cell and
 -- offset, a sum of any four weights is linear, decided by its four values and bounded by them, and so is the sum along an axis.
-use mathlib.Core.Path.{_≡_, refl, ap, _∙_}
+use mathlib.Core.Path.{_≡_, refl, sym, ap, ap₂, _∙_, fun-ext}
 use mathlib.Core.List.{List, [], _∷_}
 use Prim.Native.Nat.{ℕ, zero, suc, _+_, _-_, _*_, _/_, min, _≤_, _<_}
 use native.Mathlib.Nat.{add-sub-of-le, le-trans, mul-le-mul-left, mul-le-mul-right, mul-suc, mul-comm, div-mul-le-self, lt-div-mul-add, mul-div-right}
 use native.Mathlib.Decide.{decLt}
 use native.Mathlib.Omega.{arith}
-use lib.IntN.{ℤ, pos, natAbs, _+ℤ_, _*ℤ_}
+use lib.IntN.{ℤ, pos, natAbs, _+ℤ_, _-ℤ_, _*ℤ_, +ℤ-negℤ-cancel, -ℤ-+ℤ-cancel}
 use Rattle.algebra.specs.Solver.{Expr, var, con, _⊞_, _⊠_, _⊟_, neg, solve}
 use Rattle.algebra.specs.Size.{natAbs-sum, natAbs-product}
 use Rattle.rules.specs.Surface.{square, cube, numerator, denominator, cell, offset, weighted, along}
@@ -126,6 +126,10 @@ module _ (w : ℕ → ℤ) where
   weighted-reads f g c e =
       weighted-values f g c c (e c (omega arith) (omega arith)) (e (c + 1) (omega arith) (omega arith)) (e (c + 2) (omega arith) (omega arith)) (e (c + 3) (omega arith) (omega arith))
 
+  -- so do the values at the m + 3 stored places, for the cell of a position
+  pub stored-reads : (U m x : ℕ) → 0 < m → (f g : ℕ → ℤ) → ((s : ℕ) → s < m + 3 → f s ≡ g s) → weighted w f (cell U m x) ≡ weighted w g (cell U m x)
+  stored-reads U m x h f g e = weighted-reads f g (cell U m x) (λ s l k. e s (omega (arith, cell-below U m x h)))
+
   pub weighted-sum : (f g : ℕ → ℤ) (c : ℕ) → weighted w (λ s. f s +ℤ g s) c ≡ weighted w f c +ℤ weighted w g c
   unfolding weighted products weighing stored
   weighted-sum f g c =
@@ -139,9 +143,44 @@ module _ (w : ℕ → ℤ) where
       let p : ℕ → Expr = λ k. var (4 + k) in
       solve (products (λ k. var 8 ⊠ p k)) (var 8 ⊠ products p) (weighing (stored f c (z ∷ []))) tt
 
+  -- a factor of all four weights
+  pub weights-scale : (z : ℤ) (f : ℕ → ℤ) (c : ℕ) → weighted (λ k. z *ℤ w k) f c ≡ z *ℤ weighted w f c
+  unfolding weighted products weighing stored
+  weights-scale z f c =
+      let p : ℕ → Expr = λ k. var (4 + k) in
+      solve (var 8 ⊠ var 0 ⊠ p 0 ⊞ var 8 ⊠ var 1 ⊠ p 1 ⊞ var 8 ⊠ var 2 ⊠ p 2 ⊞ var 8 ⊠ var 3 ⊠ p 3) (var 8 ⊠ products p) (weighing (stored f c (z ∷ []))) tt
+
   pub weighted-constant : (z : ℤ) (c : ℕ) → weighted w (λ s. z) c ≡ (w 0 +ℤ w 1 +ℤ w 2 +ℤ w 3) *ℤ z
   unfolding weighted products weighing
   weighted-constant z c = solve (products (λ k. var 4)) ((var 0 ⊞ var 1 ⊞ var 2 ⊞ var 3) ⊠ var 4) (weighing (z ∷ [])) tt
+
+  -- the sums of a row and of a column change places
+  pub weighted-swap : (v : ℕ → ℤ) (f : ℕ → ℕ → ℤ) (c d : ℕ) → weighted w (λ s. weighted v (f s) d) c ≡ weighted v (λ t. weighted w (λ s. f s t) c) d
+  unfolding weighted
+  weighted-swap v f c d =
+      weighted-sum (λ s. part 0 d s +ℤ part 1 (d + 1) s +ℤ part 2 (d + 2) s) (part 3 (d + 3)) c
+      ∙ ap₂ _+ℤ_
+      (weighted-sum (λ s. part 0 d s +ℤ part 1 (d + 1) s) (part 2 (d + 2)) c
+      ∙ ap₂ _+ℤ_ (weighted-sum (part 0 d) (part 1 (d + 1)) c ∙ ap₂ _+ℤ_ (one 0 d) (one 1 (d + 1))) (one 2 (d + 2)))
+      (one 3 (d + 3))
+    where
+      part : ℕ → ℕ → ℕ → ℤ
+      part k t s = v k *ℤ f s t
+
+      one : (k t : ℕ) → weighted w (part k t) c ≡ v k *ℤ weighted w (λ s. f s t) c
+      one k t = weighted-scale (v k) (λ s. f s t) c
+
+  -- the sum of what each rounded value is off by, twice
+  pub weighted-off : (z : ℤ) (f g : ℕ → ℤ) (c : ℕ) → weighted w (λ s. pos 2 *ℤ (z *ℤ f s -ℤ g s)) c ≡ pos 2 *ℤ (z *ℤ weighted w f c -ℤ weighted w g c)
+  weighted-off z f g c =
+      weighted-scale (pos 2) off c
+      ∙ ap (λ v. pos 2 *ℤ v) (sym (+ℤ-negℤ-cancel (weighted w off c) (weighted w g c)) ∙ ap (λ v. v -ℤ weighted w g c) together)
+    where
+      off : ℕ → ℤ
+      off s = z *ℤ f s -ℤ g s
+
+      together : weighted w off c +ℤ weighted w g c ≡ z *ℤ weighted w f c
+      together = sym (weighted-sum off g c) ∙ ap (λ h. weighted w h c) (fun-ext λ s. -ℤ-+ℤ-cancel (z *ℤ f s) (g s)) ∙ weighted-scale z f c
 
   pub weighted-bound : (f : ℕ → ℤ) (c B : ℕ) → ((s : ℕ) → c ≤ s → s < c + 4 → natAbs (f s) ≤ B) → natAbs (weighted w f c) ≤ totalSize w * B
   unfolding weighted
@@ -176,6 +215,10 @@ module _ (U m x : ℕ) where
   unfolding along
   along-scale c f = weighted-scale at c f (cell U m x)
 
+  pub along-off : (c : ℤ) (f g : ℕ → ℤ) → along U m x (λ s. pos 2 *ℤ (c *ℤ f s -ℤ g s)) ≡ pos 2 *ℤ (c *ℤ along U m x f -ℤ along U m x g)
+  unfolding along
+  along-off c f g = weighted-off at c f g (cell U m x)
+
   -- the partition of unity, as the sum along an axis has it
   pub along-constant : (c : ℤ) → along U m x (λ s. c) ≡ pos (denominator U) *ℤ c
   unfolding along denominator cube
@@ -184,7 +227,7 @@ module _ (U m x : ℕ) where
   -- the values that stand at the m + 3 stored places decide the sum
   pub along-reads : 0 < m → (f g : ℕ → ℤ) → ((s : ℕ) → s < m + 3 → f s ≡ g s) → along U m x f ≡ along U m x g
   unfolding along
-  along-reads h f g e = weighted-reads at f g (cell U m x) (λ s l k. e s (omega (arith, cell-below U m x h)))
+  along-reads h f g e = stored-reads at U m x h f g e
 
   pub along-bound : 0 < U → 0 < m → x ≤ U * m → (f : ℕ → ℤ) (B : ℕ) → ((s : ℕ) → s < m + 3 → natAbs (f s) ≤ B)
       → natAbs (along U m x f) ≤ denominator U * B

@@ -1,11 +1,11 @@
 -- Laws of the surface and the height in two axes, for any U: the surface is linear, both read the stored values alone and are bounded by
 -- them, and the height is within 1 of the surface. With them the laws of a lattice's storage, and the size and the error of refined values.
-use mathlib.Core.Path.{_≡_, sym, ap, ap₂, _∙_, fun-ext}
+use mathlib.Core.Path.{_≡_, ap, ap₂, _∙_, fun-ext}
 use mathlib.Core.List.{List, [], _∷_}
 use Prim.Native.Nat.{ℕ, _+_, _*_, _/_, _%_, _≤_, _<_}
 use native.Mathlib.Nat.{mul-pos, mul-le-mul-left, mul-le-mul-right, mul-assoc, mul-comm, mul-add-div-right, mul-add-mod-self-right, div-eq-of-lt, mod-eq-of-lt, mod-lt, div-lt-iff-lt-mul}
 use native.Mathlib.Omega.{arith}
-use lib.IntN.{ℤ, pos, natAbs, _+ℤ_, _-ℤ_, _*ℤ_, +ℤ-negℤ-cancel, -ℤ-+ℤ-cancel}
+use lib.IntN.{ℤ, pos, natAbs, _+ℤ_, _-ℤ_, _*ℤ_}
 use lib.ListN.{length, getD, drop, List·getD-append}
 use Rattle.algebra.specs.Solver.{var, con, _⊞_, _⊠_, _⊟_, solve}
 use Rattle.algebra.specs.Size.{natAbs-sum, natAbs-product}
@@ -15,7 +15,7 @@ use Rattle.rules.specs.Grid.{Lattice, limit, controls, control, store}
 use Rattle.rules.specs.Surface.{denominator, along, surface, height}
 use Rattle.rules.specs.Refinement.{finer2, refined}
 use Rattle.rules.specs.Laws.Rounding.{near-distance, near-within}
-use Rattle.rules.specs.Laws.Basis.{along-sum, along-scale, along-reads, along-bound}
+use Rattle.rules.specs.Laws.Basis.{along-sum, along-scale, along-off, along-reads, along-bound}
 use Rattle.rules.specs.Laws.TwoScale.{finer2-size}
 use Rattle.rules.specs.Laws.Checks.{AllInRange}
 
@@ -76,7 +76,7 @@ height-reads U m n h k f g e x y = ap (λ v. near v (denominator U)) (rows-read 
 
 -- ---- how large they are
 
-denominator-positive : (U : ℕ) → 0 < U → 0 < denominator U
+pub denominator-positive : (U : ℕ) → 0 < U → 0 < denominator U
 unfolding denominator
 denominator-positive U h = omega (arith, mul-pos (mul-pos h h) h)
 
@@ -101,20 +101,6 @@ height-within U m n x y i f B b =
     (λ t l. near-within (along U m x (λ s. f s t)) F B h (row-bound U m n x y i f B b t l)))
 
 -- ---- how far the height is from the surface
-
--- the sum along an axis of what each rounded value is off by, twice
-along-off : (U m x : ℕ) (c : ℤ) (f g : ℕ → ℤ)
-    → along U m x (λ s. pos 2 *ℤ (c *ℤ f s -ℤ g s)) ≡ pos 2 *ℤ (c *ℤ along U m x f -ℤ along U m x g)
-along-off U m x c f g =
-    along-scale U m x (pos 2) off
-    ∙ ap (λ z. pos 2 *ℤ z) (sym (+ℤ-negℤ-cancel (along U m x off) (along U m x g)) ∙ ap (λ z. z -ℤ along U m x g) together)
-  where
-    off : ℕ → ℤ
-    off s = c *ℤ f s -ℤ g s
-
-    together : along U m x off +ℤ along U m x g ≡ c *ℤ along U m x f
-    together =
-        sym (along-sum U m x off g) ∙ ap (along U m x) (fun-ext λ s. -ℤ-+ℤ-cancel (c *ℤ f s) (g s)) ∙ along-scale U m x c f
 
 pub height-distance : (U m n x y : ℕ) → Inside U m n x y → (f : Lattice)
     → natAbs (pos 2 *ℤ (pos (full U) *ℤ height U m n f x y -ℤ surface U m n f x y)) ≤ 2 * full U

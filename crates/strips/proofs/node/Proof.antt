@@ -6,6 +6,7 @@ use borrow.Author.Needs.{needs}
 use lib.IntN.{ℤ, pos}
 use lib.ListN.{getD}
 use Rattle.machine.specs.Held.{itself, read}
+use Rattle.rules.specs.Surface.{denominator}
 use Rattle.basis.specs.Weighing.{numerators}
 use Rattle.basis.specs.Sums.{back, four-small, step-is}
 use Rattle.strips.specs.Strips.{nodeAt}
@@ -69,7 +70,7 @@ returns : tie.Need-returns
 unfolding nodeAt
 returns c =
     let d = c .before .before in
-    step-is (value d) (cell d) (start d .pre .4) (sum0 d) (sum1 d) (sum2 d) (sum3 d) (numerators (start d .args .b)) (2 ^ start d .args .e)
+    step-is (value d) (cell d) (start d .pre .4) (sum0 d) (sum1 d) (sum2 d) (sum3 d) (numerators (start d .args .b)) (denominator (2 ^ start d .args .e))
     (c .before .weighed .ok) (c .before .weighed .ensures .0) (c .near-over .ok) (c .near-over .ensures)
 
 pub node-spec : {M : Type 1} → statement M

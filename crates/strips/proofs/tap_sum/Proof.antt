@@ -16,22 +16,22 @@ mul-c c = search needs
 element-copy-out-c : tie.Need-element-copy-out-c
 element-copy-out-c c = search needs
 
-add-row-height : tie.Need-add-row-height
-add-row-height c = search needs
+add-line-height : tie.Need-add-line-height
+add-line-height c = search needs
 
-mul-row-height : tie.Need-mul-row-height
-mul-row-height c = let s = c .before .before .before in omega (arith, asked (s .pre .0) _ _ (s .pre .1) (s .pre .2) .stored, s .good)
+mul-line-height : tie.Need-mul-line-height
+mul-line-height c = let s = c .before .before .before in omega (arith, asked (s .pre .0) _ _ (s .pre .1) (s .pre .2) .stored, s .good)
 
-add-row-height-2 : tie.Need-add-row-height-2
-add-row-height-2 c = let s = c .before .before .before in omega (arith, asked (s .pre .0) _ _ (s .pre .1) (s .pre .2) .stored, s .good)
+add-line-height-2 : tie.Need-add-line-height-2
+add-line-height-2 c = let s = c .before .before .before in omega (arith, asked (s .pre .0) _ _ (s .pre .1) (s .pre .2) .stored, s .good)
 
-row-height-requires : tie.Need-row-height-requires
-row-height-requires c κs = let p = c .before .before .before .pre in asked-back (p .0) _ _ (p .1) (p .2) (c .before .before .load-taps .ensures)
+line-height-requires : tie.Need-line-height-requires
+line-height-requires c κs = let p = c .before .before .before .pre in asked-back (p .0) _ _ (p .1) (p .2) (c .before .before .load-taps .ensures)
 
 returns : tie.Need-returns
 returns c =
     let b = c .before .before .before in
-    returned (c .row-height .ok) (c .row-height .ensures) ∙ sum-back (b .before .pre .0) _ _ (b .before .pre .1) (b .before .pre .2) (b .load-taps .ensures)
+    returned (c .line-height .ok) (c .line-height .ensures) ∙ sum-back (b .before .pre .0) _ _ (b .before .pre .1) (b .before .pre .2) (b .load-taps .ensures)
 
 pub tap-sum-spec : {M : Type 1} → statement M
 tap-sum-spec =
@@ -40,8 +40,8 @@ tap-sum-spec =
     load-taps-requires
     mul-c
     element-copy-out-c
-    add-row-height
-    mul-row-height
-    add-row-height-2
-    row-height-requires
+    add-line-height
+    mul-line-height
+    add-line-height-2
+    line-height-requires
     returns)

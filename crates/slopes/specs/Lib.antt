@@ -1,0 +1,2 @@
+pub mod Sloping
+pub mod Promises
