@@ -18,7 +18,8 @@
 #include <string.h>
 
 #define LEAST_ROUNDS 10
-#define POSITIONS 5000                  /* heights or slopes in one run */
+#define POSITIONS 5000                  /* heights or slopes in one run, at most */
+#define SCANS 20                        /* heights in one run where each scans a large lattice */
 
 enum { LIBRARY, C, SIDES };
 
@@ -26,9 +27,11 @@ static double seconds_a_line = 1.0;
 
 /* ---- what is timed ---- */
 
-/* A call, and for heights and slopes the positions that it is made at. */
+/* A call, how often one run makes it, how it must end, and for heights and slopes the positions that it is made at. */
 typedef struct {
     call call;
+    size_t calls;
+    uint64_t number;
     size_t x[POSITIONS], y[POSITIONS];
 } job;
 
@@ -50,9 +53,9 @@ static uint64_t answer_of_call(const job *j, runner *run)
         size_t i;                                                                              \
                                                                                                \
         (void)run;                                                                             \
-        for (i = 0; i < POSITIONS; i++) {                                                      \
+        for (i = 0; i < j->calls; i++) {                                                       \
             const kind a = kind##_at(v[M], v[N], v[UNIT], of.at, of.length, j->x[i], j->y[i]); \
-            sum += (uint64_t)(value);                                                          \
+            sum += a.place + (uint64_t)(value);                                                \
         }                                                                                      \
         return sum;                                                                            \
     }
@@ -75,14 +78,14 @@ static uint64_t run_once(const job *j, int side)
     return of_job != NULL ? of_job(j, run[side]) : answer_of_call(j, run[side]);
 }
 
-/* Both must accept and agree, or the times mean nothing. */
+/* Both must end as the job says and agree, or the times mean nothing. */
 static void check(const job *j)
 {
     const answer left = run_library(&j->call), right = run_reference(&j->call);
 
-    if (left.field[NUMBER] != 0 || memcmp(&left, &right, sizeof left) != 0
+    if (left.field[NUMBER] != j->number || memcmp(&left, &right, sizeof left) != 0
         || run_once(j, LIBRARY) != run_once(j, C)) {
-        fprintf(stderr, "%s: refused, or the two differ\n", shapes[j->call.function].name);
+        fprintf(stderr, "%s: another refusal, or the two differ\n", shapes[j->call.function].name);
         exit(1);
     }
 }
@@ -116,6 +119,7 @@ static job *new_job(function f, size_t m, size_t n)
     job *j = room(1, sizeof *j);
 
     j->call.function = f;
+    j->calls = 1;
     j->call.number[M] = m;
     j->call.number[N] = n;
     return j;
@@ -193,11 +197,35 @@ static job *positions_job(function f, size_t cells)
     size_t at;
 
     j->call.number[UNIT] = 16;
+    j->calls = POSITIONS;
     lend_lattice(j);
     for (at = 0; at < POSITIONS; at++) {
         j->x[at] = below(&g, 16 * cells + 1);
         j->y[at] = below(&g, 16 * cells + 1);
     }
+    return j;
+}
+
+/* Heights of a large lattice, whose scan is nearly all of a call. */
+static job *scan_job(void)
+{
+    job *j = positions_job(HEIGHT_AT, 512);
+
+    j->calls = SCANS;
+    return j;
+}
+
+/* The same with one value out of range, this part of the way through the lattice: 0 the first, 1 the last. */
+static job *offended_job(double part)
+{
+    job *j = scan_job();
+    int64_t *values = j->call.slice[LATTICE].at;
+    const size_t place = (size_t)(part * (double)(j->call.slice[LATTICE].length - 1));
+
+    values[place] = INT64_C(4000000001);
+    j->number = 6;
+    if (place == 0)
+        j->calls = POSITIONS;
     return j;
 }
 
@@ -264,15 +292,15 @@ static void print_time(double seconds)
         printf("%12.3f ms", 1e3 * seconds);
 }
 
-/* A line of the first table; runs is how many calls one run makes. */
-static void line(const char *what, job *j, size_t runs)
+/* A line of the first table: the time of one call. */
+static void line(const char *what, job *j)
 {
     double best[SIDES];
 
     time_both(j, best);
     printf("%-52s", what);
-    print_time(best[LIBRARY] / (double)runs);
-    print_time(best[C] / (double)runs);
+    print_time(best[LIBRARY] / (double)j->calls);
+    print_time(best[C] / (double)j->calls);
     printf("%9.2f\n", best[LIBRARY] / best[C]);
     fflush(stdout);
     free_job(j);
@@ -308,19 +336,23 @@ static fitted growth_line(size_t cells, size_t points, size_t size, fitted befor
 static void calls_table(void)
 {
     printf("%-52s%15s%15s%9s\n", "call", "library", "C", "ratio");
-    line("fit, 500 points, 1 x 1, h = 4", fit_job(1, 4, 500), 1);
-    line("fit, 5,000 points, 4 x 4, h = 5", fit_job(4, 5, 5000), 1);
-    line("fit, 65,535 points, 16 x 16, h = 5", fit_job(16, 5, 65535), 1);
-    line("height, 1 x 1", positions_job(HEIGHT_AT, 1), POSITIONS);
-    line("height, 64 x 64 (a scan of 4,489 values)", positions_job(HEIGHT_AT, 64), POSITIONS);
-    line("slopes, 1 x 1", positions_job(SLOPE_AT, 1), POSITIONS);
-    line("slopes, 64 x 64 (a scan of 4,489 values)", positions_job(SLOPE_AT, 64), POSITIONS);
-    line("raster, 2,049 x 2,049 nodes of 512 x 512", raster_job(512, 4), 1);
-    line("refine, 256 x 256 to 512 x 512", refine_job(256), 1);
-    line("write_lattice, 512 x 512 (2,123,870 bytes)", write_lattice_job(512), 1);
-    line("read_lattice, 512 x 512", reading(write_lattice_job(512)), 1);
-    line("write_points, 65,535 points (917,498 bytes)", write_points_job(65535), 1);
-    line("read_points, 65,535 points", reading(write_points_job(65535)), 1);
+    line("fit, 500 points, 1 x 1, h = 4", fit_job(1, 4, 500));
+    line("fit, 5,000 points, 4 x 4, h = 5", fit_job(4, 5, 5000));
+    line("fit, 65,535 points, 16 x 16, h = 5", fit_job(16, 5, 65535));
+    line("height, 1 x 1", positions_job(HEIGHT_AT, 1));
+    line("height, 64 x 64 (a scan of 4,489 values)", positions_job(HEIGHT_AT, 64));
+    line("slopes, 1 x 1", positions_job(SLOPE_AT, 1));
+    line("slopes, 64 x 64 (a scan of 4,489 values)", positions_job(SLOPE_AT, 64));
+    line("height, 512 x 512 (a scan of 265,225 values)", scan_job());
+    line("height, 512 x 512, the first value out of range", offended_job(0));
+    line("height, 512 x 512, the middle one", offended_job(0.5));
+    line("height, 512 x 512, the last one", offended_job(1));
+    line("raster, 2,049 x 2,049 nodes of 512 x 512", raster_job(512, 4));
+    line("refine, 256 x 256 to 512 x 512", refine_job(256));
+    line("write_lattice, 512 x 512 (2,123,870 bytes)", write_lattice_job(512));
+    line("read_lattice, 512 x 512", reading(write_lattice_job(512)));
+    line("write_points, 65,535 points (917,498 bytes)", write_points_job(65535));
+    line("read_points, 65,535 points", reading(write_points_job(65535)));
 }
 
 static void growth_tables(void)

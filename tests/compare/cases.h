@@ -34,7 +34,10 @@ size_t some_point_count(generator *g, size_class size);
 /* Every cut of small files, and every byte of them changed to every value, or to a few. */
 void every_file_damage(int few_values);
 
-/* The examples of document 01 by their printed values, and slopes of document 02 by known ones; returns how many there are. */
+/*
+ * The examples of document 01 by their printed values, slopes of document 02 by known ones, and each value of some lattices
+ * out of range in turn; returns how many examples there are.
+ */
 size_t run_examples(void);
 
 /* What the demand 3 cases saw. */

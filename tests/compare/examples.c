@@ -272,6 +272,42 @@ static void slope_examples(void)
     slope_example("slopes over one sum that is a half", corner, 1, 0, -31, -31);
 }
 
+/* ---- lattices with values out of range ---- */
+
+/* Each value out of range in turn, and with it the last: the first of the two is refused with its place. */
+static void first_offender(size_t cells, int64_t value)
+{
+    const size_t count = CURLEW_CONTROLS(cells, cells);
+    draft d = new_draft(HEIGHT_AT);
+    int64_t *lattice = d.call.slice[LATTICE].at;
+    size_t place;
+
+    d.call.number[M] = d.call.number[N] = cells;
+    d.call.number[UNIT] = 16;
+    some_lattice(&g, &d);
+    lattice[count - 1] = value;
+    for (place = count; place-- > 0;) {
+        const int64_t kept = lattice[place];
+
+        lattice[place] = value;
+        expect(&d, 6, place, 0, 0);
+        lattice[place] = kept;
+    }
+}
+
+/* Lattices of 16, 64, 529 and 576 values: with and without values past the last multiple of 64. */
+static void offender_examples(void)
+{
+    static const size_t cells[] = { 1, 5, 20, 21 };
+    size_t at;
+
+    begin("every value out of range in turn");
+    for (at = 0; at < COUNT(cells); at++) {
+        first_offender(cells[at], LIMIT + 1);
+        first_offender(cells[at], -LIMIT - 1);
+    }
+}
+
 /* ---- files: the lattice file of 1 by 1 zero cells, whole and with its rows tampered with ---- */
 
 static size_t zero_lattice_file(uint8_t *file, size_t rows)
@@ -335,6 +371,7 @@ size_t run_examples(void)
     fit_examples();
     lattice_examples();
     slope_examples();
+    offender_examples();
     file_examples();
     return examples;
 }

@@ -330,14 +330,23 @@ int64_t wrong_value(generator *g)
     }
 }
 
-/* Puts a value out of range in the slice: first, last or anywhere. */
+/* A place of so many: the first, the last, beside a multiple of a power of two, where a scan by blocks would turn, or any. */
+static size_t some_place(generator *g, size_t count)
+{
+    const size_t turn = (1 + below(g, 8)) << below(g, 9), place = turn - 1 + below(g, 3);
+
+    return once_in(g, 5) ? 0 : once_in(g, 4) ? count - 1 : once_in(g, 2) && place < count ? place : below(g, count);
+}
+
+/* Puts a value out of range in the slice, or a few: the first of them counts. */
 static void spoil(generator *g, draft *d, role r)
 {
     const size_t count = d->exact[r];
+    size_t offenders = once_in(g, 3) ? 1 + below(g, 4) : 1;
     int64_t *values = d->call.slice[r].at;
 
-    if (count > 0)
-        values[once_in(g, 4) ? 0 : once_in(g, 3) ? count - 1 : below(g, count)] = wrong_value(g);
+    while (count > 0 && offenders-- > 0)
+        values[some_place(g, count)] = wrong_value(g);
 }
 
 void some_trouble(generator *g, draft *d)

@@ -24,7 +24,7 @@ fn from_bits(v: u64) -> i64
     }
 }
 
-fn to_bits(z: i64) -> u64
+pub fn to_bits(z: i64) -> u64
     ensures { λ r. ⌜ r ≡ complement 8 z ⌝ }
 {
     if 0 <= z {

@@ -10,8 +10,7 @@ use lib.IntN.{ℤ, pos}
 use lib.ListN.{length, getD, set}
 use Rattle.algebra.specs.Table.{Free, tabulate, length-tabulate, getD-tabulate, free-laid}
 use Rattle.rules.specs.Grid.{inRange}
-use Rattle.rules.specs.Answers.{rangeCheck, firstOf}
-use Rattle.rules.specs.Laws.Checks.{NoneOut, noneOut-more, noneOut-at}
+use Rattle.rules.specs.Laws.Checks.{NoneOut, noneOut-start, noneOut-more, noneOut-at}
 use Rattle.algebra.specs.Partly.{Partly, begun, stored, finished}
 use Rattle.fit_steps.specs.Steps.{Written}
 
@@ -22,8 +21,7 @@ pub record Tested (n count i : ℕ) (f : ℕ → ℤ) (d l : List ℤ) : Type 0 
   pub none-out : NoneOut i (tabulate count f)
 
 pub untested : (n count : ℕ) (f : ℕ → ℤ) (d : List ℤ) → Tested n count 0 f d d
-unfolding rangeCheck firstOf
-untested n count f d = record { within = omega arith; partly = begun n 0 f d refl; none-out = λ r. refl }
+untested n count f d = record { within = omega arith; partly = begun n 0 f d refl; none-out = noneOut-start (tabulate count f) }
 
 module _ {n count i : ℕ} {f : ℕ → ℤ} {d l : List ℤ} (p : Tested n count i f d l) (room : n + count ≤ length d) where
   free : Free n count d l

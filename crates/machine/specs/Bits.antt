@@ -8,7 +8,7 @@ use lib.Bits.{bitOr, or-lt, or-add-and, and-le-l, and-le-r}
 use lib.Dec.{ltb}
 
 -- it is no smaller than they are
-or-least : (a b : ℕ) → (a ≤ bitOr a b) × (b ≤ bitOr a b)
+pub or-least : (a b : ℕ) → (a ≤ bitOr a b) × (b ≤ bitOr a b)
 or-least a b =
     let sum = or-add-and a b in
     let left = and-le-l a b in

@@ -1,31 +1,55 @@
--- What a scan of many values tells at once: a value's size, raised so that one out of range reaches the top bit.
-use Prim.Native.Nat.{ℕ, _+_, _-_, _^_}
+-- What a scan of many values tells at once: bits of which the top one is 0 exactly if a value is in range.
+use Prim.Native.Nat.{ℕ, _+_, _-_, _*_, _%_, _^_, _≤_, _<_}
 use mathlib.Core.Path.{_≡_, refl, sym, ap, _∙_}
 use mathlib.Core.Bool.{Bool, true, false, _&&_}
 use mathlib.Core.List.{List}
 use native.Mathlib.Numerals.{add-one}
 use native.Mathlib.Omega.{arith}
 use borrow.Author.Tests.{leb-true, leb-false, lt-ltb, le-ltb}
-use lib.Bits.{bitOr}
+use lib.Bits.{bitOr, or-lt}
 use lib.Dec.{leb, ltb}
-use lib.IntN.{ℤ, pos, natAbs}
+use lib.IntN.{ℤ, pos, negsuc, natAbs}
 use lib.ListN.{getD}
-use Rattle.machine.specs.Bits.{or-below}
+use lib.Signed.{mag}
+use mir.Syntax.{w64}
+use mir.Val.{toZ, ofZ}
+use Rattle.machine.specs.Bits.{or-least, or-below}
+use Rattle.machine.specs.Tests.{plain}
+use Rattle.rules.specs.Bytes.{complement}
 use Rattle.rules.specs.Grid.{limit, inRange}
-use Rattle.rules.specs.Answers.{Refusal, require, _then_, firstOf, rangeCheck}
+use Rattle.rules.specs.Answers.{Refusal, require, _then_, firstOf, rangeCheck, short}
+use Rattle.rules.specs.Laws.Checks.{NoneOut, rangeCheck-size, size-rangeCheck}
 use Rattle.answers.specs.Cause.{okCheck}
 
--- how far the largest size in range is below 2^63 - 1
-abbrev pub headroom : ℕ
-headroom = 2 ^ 63 - 1 - limit
+-- what a test of a stored value tells: it was handed the bits of z, read back
+pub tested : (z : ℤ) (b : Bool) → mag z < 2 ^ 63 → b ≡ inRange (toZ w64 (ofZ w64 z)) → b ≡ inRange z
+tested z b fits e = e ∙ ap inRange (plain z fits)
 
-raised-below : (z : ℤ) → ltb (natAbs z + headroom) (2 ^ 63) ≡ inRange z
+-- the bits of a value's height above the least value in range; below it they wrap
+abbrev pub above : ℤ → ℕ
+above z = (complement 8 z + limit) % 2 ^ 64
+
+-- the same with so much more that the greatest value in range stands at 2^63 - 1
+abbrev pub raised : ℤ → ℕ
+raised z = (above z + (2 ^ 63 - 1 - 2 * limit)) % 2 ^ 64
+
+inside : (z : ℤ) → natAbs z ≤ limit → (above z < 2 ^ 63) × (raised z < 2 ^ 63)
+unfolding complement
+inside (pos v) h = (omega arith, omega arith)
+inside (negsuc v) h = (omega arith, omega arith)
+
+outside : (z : ℤ) → mag z < 2 ^ 63 → limit < natAbs z → 2 ^ 63 ≤ bitOr (above z) (raised z)
+unfolding complement
+outside (pos v) h l = omega (arith, or-least (above (pos v)) (raised (pos v)) .1)
+outside (negsuc v) h l = omega (arith, or-least (above (negsuc v)) (raised (negsuc v)) .0)
+
+pub range-bits : (z : ℤ) → mag z < 2 ^ 63 → ltb (bitOr (above z) (raised z)) (2 ^ 63) ≡ inRange z
 unfolding inRange
-raised-below z = go (leb (natAbs z) limit) refl
+range-bits z h = go (leb (natAbs z) limit) refl
   where
-    go : (b : Bool) → leb (natAbs z) limit ≡ b → ltb (natAbs z + headroom) (2 ^ 63) ≡ b
-    go true p = lt-ltb (natAbs z + headroom) (2 ^ 63) (omega (arith, leb-true (natAbs z) limit p))
-    go false p = le-ltb (natAbs z + headroom) (2 ^ 63) (omega (arith, leb-false (natAbs z) limit p))
+    go : (b : Bool) → leb (natAbs z) limit ≡ b → ltb (bitOr (above z) (raised z)) (2 ^ 63) ≡ b
+    go true p = let i = inside z (leb-true (natAbs z) limit p) in lt-ltb _ _ (or-lt 63 (above z) (raised z) (i .0) (i .1))
+    go false p = le-ltb _ _ (outside z h (leb-false (natAbs z) limit p))
 
 -- two tests in a row that r refuses are one
 ok-then : (a b : Bool) (r : Refusal) → (okCheck a r then require b r) ≡ okCheck (a && b) r
@@ -34,16 +58,20 @@ ok-then true true r = refl
 ok-then true false r = refl
 ok-then false b r = refl
 
--- the top bit of all that was raised is still 0 exactly if none of the first i values is refused
+-- where one refusal for all of n values refuses none, none is out of range
+pub all-noneOut : (n : ℕ) (values : List ℤ) (ok : Bool) → ((r : Refusal) → rangeCheck n values (λ i. r) ≡ okCheck ok r) → ok ≡ true → NoneOut n values
+all-noneOut n values ok e t f = size-rangeCheck n values f (rangeCheck-size n values (λ i. short) (e short ∙ ap (λ b. okCheck b short) t))
+
+-- the top bit of all that was joined is still 0 exactly if none of the first i values is refused
 abbrev pub Scanned : ℕ → ℕ → List ℤ → Type 0
 Scanned i bits values = (r : Refusal) → rangeCheck i values (λ i. r) ≡ okCheck (ltb bits (2 ^ 63)) r
 
 -- a turn of the scan
-pub scan-more : (i bits : ℕ) (values : List ℤ) → Scanned i bits values → Scanned (i + 1) (bitOr bits (natAbs (getD values i (pos 0)) + headroom)) values
+pub scan-more : (i bits more : ℕ) (values : List ℤ) → Scanned i bits values → ltb more (2 ^ 63) ≡ inRange (getD values i (pos 0)) → Scanned (i + 1) (bitOr bits more) values
 unfolding rangeCheck firstOf
-scan-more i bits values p r =
+scan-more i bits more values p t r =
     let z = getD values i (pos 0) in
     ap (λ k. rangeCheck k values (λ i. r)) (add-one i)
     ∙ ap (λ c. c then require (inRange z) r) (p r)
     ∙ ok-then (ltb bits (2 ^ 63)) (inRange z) r
-    ∙ ap (λ b. okCheck b r) (ap (λ b. ltb bits (2 ^ 63) && b) (sym (raised-below z)) ∙ sym (or-below 63 bits (natAbs z + headroom)))
+    ∙ ap (λ b. okCheck b r) (ap (λ b. ltb bits (2 ^ 63) && b) (sym t) ∙ sym (or-below 63 bits more))

@@ -1,13 +1,13 @@
 // Values in range, one by one and in a scan of many.
 ghost use mathlib.Core.Path.{_≡_};
-ghost use Prim.Native.Nat.{ℕ, _+_, _≤_};
-ghost use lib.IntN.{natAbs};
+ghost use Prim.Native.Nat.{ℕ, _+_, _^_, _<_, _≤_};
+ghost use lib.Dec.{ltb};
 ghost use lib.ListN.{length};
 ghost use Rattle.rules.specs.Answers as rule;
 ghost use Rattle.rules.specs.Grid.{inRange};
+ghost use Rattle.rules.specs.Laws.Checks.{NoneOut};
 ghost use Rattle.answers.specs.Cause.{okCheck};
 ghost use Rattle.range.specs.Found.{foundCheck};
-ghost use Rattle.range.specs.Scan.{headroom};
 
 // What a scan finds.
 pub enum Found {
@@ -28,45 +28,71 @@ pub fn in_range(z: i64) -> bool
     true
 }
 
-// |z| + 2^63 - 1 - 4,000,000,000: below 2^63 exactly if z is in range.
-fn raised(z: i64) -> u64
-    ensures { λ r. ⌜ r ≡ natAbs z + headroom ⌝ }
+// 64 bits, the top one 0 exactly if z is in range: how far z is above the least value in range, which wraps for a lower one, and the same with
+// so much more that the greatest is at 2^63 - 1.
+fn range_bits(z: i64) -> u64
+    ensures { λ r. ⌜ ltb r (2 ^ 63) ≡ inRange z ⌝ }
 {
-    if 0 <= z {
-        (z as u64) + 9_223_372_032_854_775_807
-    } else {
-        ((-1 - z) as u64) + 9_223_372_032_854_775_808
-    }
+    let above = std::num::wrapping_add_u64(codec::to_bits(z), 4_000_000_000);
+    above | std::num::wrapping_add_u64(above, 9_223_372_028_854_775_807)
 }
 
-// Whether the first n values are in range. The loop tests no value, so that it is fast: "or" keeps the top bit of every one.
-fn all_in_range(values: &[i64], n: usize) -> bool
-    requires { ⌜ n ≤ length (now values) ⌝ }
-    ensures { λ ok. ⌜ ((r : rule.Refusal) → rule.rangeCheck n (now (values .entry)) (λ i. r) ≡ okCheck ok r) ⌝ }
+// Whether the values of a block are in range, where all before it are. The loop tests no value, so that it is fast: "or" keeps the top bit of
+// every one.
+fn all_in_range(values: &[i64], start: usize, end: usize) -> bool
+    requires { ⌜ start ≤ end ⌝ ∗ ⌜ end ≤ length (now values) ⌝ ∗ ⌜ NoneOut start (now values) ⌝ }
+    ensures { λ ok. ⌜ ((r : rule.Refusal) → rule.rangeCheck end (now (values .entry)) (λ i. r) ≡ okCheck ok r) ⌝ }
 {
     let mut bits = 0u64;
-    let mut i = 0;
-    while i < n {
-        bits = bits | raised(values[i]);
+    let mut i = start;
+    while i < end {
+        bits = bits | range_bits(values[i]);
         i += 1;
     }
     bits < 9_223_372_036_854_775_808
 }
 
-// The first of n values that is out of range. Every scan of a stored lattice is this one.
-pub fn first_out(values: &[i64], n: usize) -> Found
+// Which value to test after value i, where all up to i are in range: the next one or, if i starts a block of 64 that is all in range, the one after
+// that block.
+fn next(values: &[i64], i: usize, n: usize) -> usize
+    requires { ⌜ i < n ⌝ ∗ ⌜ n ≤ length (now values) ⌝ ∗ ⌜ NoneOut (i + 1) (now values) ⌝ }
+    ensures { λ r. ⌜ i < r ⌝ ∗ ⌜ r ≤ n ⌝ ∗ ⌜ NoneOut r (now (values .entry)) ⌝ }
+{
+    if i % 64 == 0 {
+        if i + 64 <= n {
+            if all_in_range(values, i, i + 64) {
+                return i + 64;
+            }
+        }
+    }
+    i + 1
+}
+
+// The first of n values that is out of range: value by value, but for the blocks that are all in range.
+fn first_past_blocks(values: &[i64], n: usize) -> Found
     requires { ⌜ n ≤ length (now values) ⌝ }
     ensures { λ r. ⌜ ((f : ℕ → rule.Refusal) → rule.rangeCheck n (now (values .entry)) f ≡ foundCheck f r) ⌝ }
 {
-    if all_in_range(values, n) {
-        return Found::Nowhere;
-    }
     let mut i = 0;
     while i < n {
         if !in_range(values[i]) {
             return Found::At(i);
         }
-        i += 1;
+        i = next(values, i, n);
     }
     Found::Nowhere
+}
+
+// The first of n values that is out of range. Every scan of a stored lattice is this one. Fewer than 512 values are one block of their own: so few
+// blocks of 64 would not make up for the values after the last one, which are tested one by one.
+pub fn first_out(values: &[i64], n: usize) -> Found
+    requires { ⌜ n ≤ length (now values) ⌝ }
+    ensures { λ r. ⌜ ((f : ℕ → rule.Refusal) → rule.rangeCheck n (now (values .entry)) f ≡ foundCheck f r) ⌝ }
+{
+    if n < 512 {
+        if all_in_range(values, 0, n) {
+            return Found::Nowhere;
+        }
+    }
+    first_past_blocks(values, n)
 }

@@ -163,12 +163,21 @@ size-rangeCheck n values f h =
 abbrev pub NoneOut : ℕ → List ℤ → Type 0
 NoneOut i values = (f : ℕ → Refusal) → rangeCheck i values f ≡ none
 
+-- it has met none before its first value
+pub noneOut-start : (values : List ℤ) → NoneOut 0 values
+unfolding rangeCheck firstOf
+noneOut-start values f = refl
+
 pub noneOut-more : (i : ℕ) (values : List ℤ) → NoneOut i values → T (inRange (getD values i (pos 0))) → NoneOut (i + 1) values
 unfolding rangeCheck firstOf
 noneOut-more i values p t f =
     rw (add-one i)
     (then-none (rangeCheck i values f) (require (inRange (getD values i (pos 0))) (f i)) (p f)
     ∙ require-met (inRange (getD values i (pos 0))) (f i) t)
+
+-- what it has passed it had passed one value earlier
+pub noneOut-less : (i : ℕ) (values : List ℤ) → NoneOut (i + 1) values → NoneOut i values
+noneOut-less i values p f = size-rangeCheck i values f (λ j l. rangeCheck-size (i + 1) values (λ i. short) (p (λ i. short)) j (omega arith))
 
 pub noneOut-at : (n i : ℕ) (values : List ℤ) → NoneOut i values → i < n → inRange (getD values i (pos 0)) ≡ false
     → (f : ℕ → Refusal) → rangeCheck n values f ≡ some (f i)
