@@ -25,31 +25,29 @@ use Rattle.answers.specs.Cause.{okCheck}
 pub tested : (z : ℤ) (b : Bool) → mag z < 2 ^ 63 → b ≡ inRange (toZ w64 (ofZ w64 z)) → b ≡ inRange z
 tested z b fits e = e ∙ ap inRange (plain z fits)
 
--- the bits of a value's height above the least value in range; below it they wrap
-abbrev pub above : ℤ → ℕ
-above z = (complement 8 z + limit) % 2 ^ 64
+-- the 64 bits of how far z is above the least value in range and how far below the greatest; each wraps where z is past it
+pub record Apart (z : ℤ) (above below : ℕ) : Type 0 where
+  pub from-least : above ≡ (complement 8 z + limit) % 2 ^ 64
+  pub to-greatest : (below + complement 8 z) % 2 ^ 64 ≡ limit
+  pub fits : below < 2 ^ 64
 
--- the same with so much more that the greatest value in range stands at 2^63 - 1
-abbrev pub raised : ℤ → ℕ
-raised z = (above z + (2 ^ 63 - 1 - 2 * limit)) % 2 ^ 64
-
-inside : (z : ℤ) → natAbs z ≤ limit → (above z < 2 ^ 63) × (raised z < 2 ^ 63)
+inside : (z : ℤ) (above below : ℕ) → Apart z above below → natAbs z ≤ limit → (above < 2 ^ 63) × (below < 2 ^ 63)
 unfolding complement
-inside (pos v) h = (omega arith, omega arith)
-inside (negsuc v) h = (omega arith, omega arith)
+inside (pos v) above below p h = (omega arith, omega arith)
+inside (negsuc v) above below p h = (omega arith, omega arith)
 
-outside : (z : ℤ) → mag z < 2 ^ 63 → limit < natAbs z → 2 ^ 63 ≤ bitOr (above z) (raised z)
+outside : (z : ℤ) (above below : ℕ) → Apart z above below → mag z < 2 ^ 63 → limit < natAbs z → 2 ^ 63 ≤ bitOr above below
 unfolding complement
-outside (pos v) h l = omega (arith, or-least (above (pos v)) (raised (pos v)) .1)
-outside (negsuc v) h l = omega (arith, or-least (above (negsuc v)) (raised (negsuc v)) .0)
+outside (pos v) above below p h l = omega (arith, or-least above below .1)
+outside (negsuc v) above below p h l = omega (arith, or-least above below .0)
 
-pub range-bits : (z : ℤ) → mag z < 2 ^ 63 → ltb (bitOr (above z) (raised z)) (2 ^ 63) ≡ inRange z
+pub range-bits : (z : ℤ) (above below : ℕ) → Apart z above below → mag z < 2 ^ 63 → ltb (bitOr above below) (2 ^ 63) ≡ inRange z
 unfolding inRange
-range-bits z h = go (leb (natAbs z) limit) refl
+range-bits z above below p h = go (leb (natAbs z) limit) refl
   where
-    go : (b : Bool) → leb (natAbs z) limit ≡ b → ltb (bitOr (above z) (raised z)) (2 ^ 63) ≡ b
-    go true p = let i = inside z (leb-true (natAbs z) limit p) in lt-ltb _ _ (or-lt 63 (above z) (raised z) (i .0) (i .1))
-    go false p = le-ltb _ _ (outside z h (leb-false (natAbs z) limit p))
+    go : (b : Bool) → leb (natAbs z) limit ≡ b → ltb (bitOr above below) (2 ^ 63) ≡ b
+    go true t = let i = inside z above below p (leb-true (natAbs z) limit t) in lt-ltb _ _ (or-lt 63 above below (i .0) (i .1))
+    go false t = le-ltb _ _ (outside z above below p h (leb-false (natAbs z) limit t))
 
 -- two tests in a row that r refuses are one
 ok-then : (a b : Bool) (r : Refusal) → (okCheck a r then require b r) ≡ okCheck (a && b) r

@@ -28,13 +28,14 @@ pub fn in_range(z: i64) -> bool
     true
 }
 
-// 64 bits, the top one 0 exactly if z is in range: how far z is above the least value in range, which wraps for a lower one, and the same with
-// so much more that the greatest is at 2^63 - 1.
+// 64 bits, the top one 0 exactly if z is in range: how far z is above the least value in range and how far below the greatest. Each wraps where z
+// is past it.
 fn range_bits(z: i64) -> u64
     ensures { λ r. ⌜ ltb r (2 ^ 63) ≡ inRange z ⌝ }
 {
-    let above = std::num::wrapping_add_u64(codec::to_bits(z), 4_000_000_000);
-    above | std::num::wrapping_add_u64(above, 9_223_372_028_854_775_807)
+    let bits = codec::to_bits(z);
+    std::num::wrapping_add_u64(bits, 4_000_000_000)
+        | std::num::wrapping_sub_u64(4_000_000_000, bits)
 }
 
 // Whether the values of a block are in range, where all before it are. The loop tests no value, so that it is fast: "or" keeps the top bit of

@@ -1,13 +1,12 @@
--- `range::range_bits` meets its contract: what it joins by "or" is the value's height above the least one in range, and that raised.
+-- `range::range_bits` meets its contract: the two numbers that it joins by "or" are how far z is from either end of the range.
 use mathlib.Core.Path.{_≡_, sym, ap, _∙_}
-use Prim.Native.Nat.{ℕ, _+_, _-_, _*_, _%_, _^_}
+use Prim.Native.Nat.{_+_, _%_, _^_}
+use native.Mathlib.Omega.{arith}
 use borrow.Author.Needs.{needs}
-use lib.Bits.{bitOr}
-use lib.Dec.{ltb}
 use Rattle.machine.specs.Tests.{plain}
 use Rattle.rules.specs.Bytes.{complement}
 use Rattle.rules.specs.Grid.{limit}
-use Rattle.range.specs.Scan.{above, raised, range-bits}
+use Rattle.range.specs.Scan.{range-bits}
 use Rattle.range.proofs.range_bits.Statement.{statement}
 use Rattle.range.proofs.range_bits.Tie as tie
 
@@ -15,11 +14,15 @@ returns : tie.Need-returns
 returns c =
     let p = c .before .before .before in
     let z = p .args .z in
-    let a : c .before .wrapping-add-u64 .result ≡ above z =
-    c .before .wrapping-add-u64 .ensures ∙ ap (λ v. (v + limit) % 2 ^ 64) (c .before .before .to-bits .ensures ∙ ap (complement 8) (plain z (p .fits .z .sfits)))
-    in
-    let b : c .wrapping-add-u642 .result ≡ raised z = c .wrapping-add-u642 .ensures ∙ ap (λ v. (v + (2 ^ 63 - 1 - 2 * limit)) % 2 ^ 64) a in
-    rw (a, b) (range-bits z (p .fits .z .sfits))
+    let fits = p .fits .z .sfits in
+    let bits : c .before .before .to-bits .result ≡ complement 8 z = c .before .before .to-bits .ensures ∙ ap (complement 8) (plain z fits) in
+    range-bits z _ _
+    (record {
+      from-least = c .before .wrapping-add-u64 .ensures ∙ ap (λ v. (v + limit) % 2 ^ 64) bits;
+      to-greatest = ap (λ v. (c .wrapping-sub-u64 .result + v) % 2 ^ 64) (sym bits) ∙ c .wrapping-sub-u64 .ensures;
+      fits = omega arith;
+    })
+    fits
 
 to-bits-requires : tie.Need-to-bits-requires
 to-bits-requires c κs = search needs
@@ -27,8 +30,8 @@ to-bits-requires c κs = search needs
 wrapping-add-u64-requires : tie.Need-wrapping-add-u64-requires
 wrapping-add-u64-requires c κs = search needs
 
-wrapping-add-u64-requires-2 : tie.Need-wrapping-add-u64-requires-2
-wrapping-add-u64-requires-2 c κs = search needs
+wrapping-sub-u64-requires : tie.Need-wrapping-sub-u64-requires
+wrapping-sub-u64-requires c κs = search needs
 
 pub range-bits-spec : {M : Type 1} → statement M
-range-bits-spec = tie.close (tie.spec to-bits-requires wrapping-add-u64-requires wrapping-add-u64-requires-2 returns)
+range-bits-spec = tie.close (tie.spec to-bits-requires wrapping-add-u64-requires wrapping-sub-u64-requires returns)
