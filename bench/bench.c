@@ -55,7 +55,7 @@ static uint64_t answer_of_call(const job *j, runner *run)
         (void)run;                                                                             \
         for (i = 0; i < j->calls; i++) {                                                       \
             const kind a = kind##_at(v[M], v[N], v[UNIT], of.at, of.length, j->x[i], j->y[i]); \
-            sum += a.place + (uint64_t)(value);                                                \
+            sum += a.number + a.place + (uint64_t)(value);                                     \
         }                                                                                      \
         return sum;                                                                            \
     }
@@ -225,7 +225,7 @@ static job *offended_job(double part)
     values[place] = INT64_C(4000000001);
     j->number = 6;
     if (place == 0)
-        j->calls = POSITIONS;
+        j->calls = POSITIONS;           /* each is refused too soon for a few to be timed */
     return j;
 }
 
@@ -344,9 +344,9 @@ static void calls_table(void)
     line("slopes, 1 x 1", positions_job(SLOPE_AT, 1));
     line("slopes, 64 x 64 (a scan of 4,489 values)", positions_job(SLOPE_AT, 64));
     line("height, 512 x 512 (a scan of 265,225 values)", scan_job());
-    line("height, 512 x 512, the first value out of range", offended_job(0));
-    line("height, 512 x 512, the middle one", offended_job(0.5));
-    line("height, 512 x 512, the last one", offended_job(1));
+    line("height, 512 x 512, the first value is out of range", offended_job(0));
+    line("height, 512 x 512, the middle value is", offended_job(0.5));
+    line("height, 512 x 512, the last value is", offended_job(1));
     line("raster, 2,049 x 2,049 nodes of 512 x 512", raster_job(512, 4));
     line("refine, 256 x 256 to 512 x 512", refine_job(256));
     line("write_lattice, 512 x 512 (2,123,870 bytes)", write_lattice_job(512));

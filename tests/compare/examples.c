@@ -274,18 +274,20 @@ static void slope_examples(void)
 
 /* ---- lattices with values out of range ---- */
 
-/* Each value out of range in turn, and with it the last: the first of the two is refused with its place. */
-static void first_offender(size_t cells, int64_t value)
+/* Each value out of range in turn, alone or with the last one: the first of the two is refused with its place. */
+static void first_offender(size_t m, size_t n, int64_t value, int with_last)
 {
-    const size_t count = CURLEW_CONTROLS(cells, cells);
+    const size_t count = CURLEW_CONTROLS(m, n);
     draft d = new_draft(HEIGHT_AT);
     int64_t *lattice = d.call.slice[LATTICE].at;
     size_t place;
 
-    d.call.number[M] = d.call.number[N] = cells;
+    d.call.number[M] = m;
+    d.call.number[N] = n;
     d.call.number[UNIT] = 16;
     some_lattice(&g, &d);
-    lattice[count - 1] = value;
+    if (with_last)
+        lattice[count - 1] = value;
     for (place = count; place-- > 0;) {
         const int64_t kept = lattice[place];
 
@@ -295,16 +297,18 @@ static void first_offender(size_t cells, int64_t value)
     }
 }
 
-/* Lattices of 16, 64, 529 and 576 values: with and without values past the last multiple of 64. */
+/* Lattices of 16, 64, 511, 512, 529 and 576 values: with and without values past the last multiple of 64. */
 static void offender_examples(void)
 {
-    static const size_t cells[] = { 1, 5, 20, 21 };
+    static const size_t cells[][2] = { { 1, 1 }, { 5, 5 }, { 4, 70 }, { 13, 29 }, { 20, 20 }, { 21, 21 } };
     size_t at;
 
     begin("every value out of range in turn");
     for (at = 0; at < COUNT(cells); at++) {
-        first_offender(cells[at], LIMIT + 1);
-        first_offender(cells[at], -LIMIT - 1);
+        first_offender(cells[at][0], cells[at][1], LIMIT + 1, 0);
+        first_offender(cells[at][0], cells[at][1], -LIMIT - 1, 1);
+        first_offender(cells[at][0], cells[at][1], INT64_MAX, 1);
+        first_offender(cells[at][0], cells[at][1], INT64_MIN, 0);
     }
 }
 

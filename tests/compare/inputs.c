@@ -330,12 +330,20 @@ int64_t wrong_value(generator *g)
     }
 }
 
-/* A place of so many: the first, the last, beside a multiple of a power of two, where a scan by blocks would turn, or any. */
-static size_t some_place(generator *g, size_t count)
+/* Beside a multiple of a power of two, where a scan by blocks would turn: of a small one, or the last of 64 that is in count. */
+static size_t some_turn(generator *g, size_t count)
 {
-    const size_t turn = (1 + below(g, 8)) << below(g, 9), place = turn - 1 + below(g, 3);
+    const unsigned shift = (unsigned)below(g, 9);
+    const size_t turn = once_in(g, 3) ? count - count % 64 : (1 + below(g, 8)) << shift;
+    const size_t index = turn + below(g, 3);
 
-    return once_in(g, 5) ? 0 : once_in(g, 4) ? count - 1 : once_in(g, 2) && place < count ? place : below(g, count);
+    return index > 0 && index <= count ? index - 1 : 0;
+}
+
+/* An index below count: the first, the last, beside a turn, or any. */
+static size_t some_index(generator *g, size_t count)
+{
+    return once_in(g, 5) ? 0 : once_in(g, 4) ? count - 1 : once_in(g, 2) ? some_turn(g, count) : below(g, count);
 }
 
 /* Puts a value out of range in the slice, or a few: the first of them counts. */
@@ -345,8 +353,10 @@ static void spoil(generator *g, draft *d, role r)
     size_t offenders = once_in(g, 3) ? 1 + below(g, 4) : 1;
     int64_t *values = d->call.slice[r].at;
 
-    while (count > 0 && offenders-- > 0)
-        values[some_place(g, count)] = wrong_value(g);
+    while (count > 0 && offenders-- > 0) {
+        const size_t index = some_index(g, count);
+        values[index] = wrong_value(g);
+    }
 }
 
 void some_trouble(generator *g, draft *d)

@@ -1,5 +1,5 @@
 -- What a scan of many values tells at once: bits of which the top one is 0 exactly if a value is in range.
-use Prim.Native.Nat.{ℕ, _+_, _-_, _*_, _%_, _^_, _≤_, _<_}
+use Prim.Native.Nat.{ℕ, _+_, _%_, _^_, _≤_, _<_}
 use mathlib.Core.Path.{_≡_, refl, sym, ap, _∙_}
 use mathlib.Core.Bool.{Bool, true, false, _&&_}
 use mathlib.Core.List.{List}
@@ -25,7 +25,7 @@ use Rattle.answers.specs.Cause.{okCheck}
 pub tested : (z : ℤ) (b : Bool) → mag z < 2 ^ 63 → b ≡ inRange (toZ w64 (ofZ w64 z)) → b ≡ inRange z
 tested z b fits e = e ∙ ap inRange (plain z fits)
 
--- the 64 bits of how far z is above the least value in range and how far below the greatest; each wraps where z is past it
+-- the 64 bits of how far z is above the least value in range and how far below the greatest
 pub record Apart (z : ℤ) (above below : ℕ) : Type 0 where
   pub from-least : above ≡ (complement 8 z + limit) % 2 ^ 64
   pub to-greatest : (below + complement 8 z) % 2 ^ 64 ≡ limit

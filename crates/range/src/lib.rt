@@ -28,8 +28,8 @@ pub fn in_range(z: i64) -> bool
     true
 }
 
-// 64 bits, the top one 0 exactly if z is in range: how far z is above the least value in range and how far below the greatest. Each wraps where z
-// is past it.
+// 64 bits, the top one 0 exactly if z is in range: how far z is above the least value in range and how far below the greatest. Past either end one
+// of the two is negative, and its top bit 1.
 fn range_bits(z: i64) -> u64
     ensures { λ r. ⌜ ltb r (2 ^ 63) ≡ inRange z ⌝ }
 {
@@ -70,7 +70,7 @@ fn next(values: &[i64], i: usize, n: usize) -> usize
 }
 
 // The first of n values that is out of range: value by value, but for the blocks that are all in range.
-fn first_past_blocks(values: &[i64], n: usize) -> Found
+fn first_by_blocks(values: &[i64], n: usize) -> Found
     requires { ⌜ n ≤ length (now values) ⌝ }
     ensures { λ r. ⌜ ((f : ℕ → rule.Refusal) → rule.rangeCheck n (now (values .entry)) f ≡ foundCheck f r) ⌝ }
 {
@@ -84,8 +84,8 @@ fn first_past_blocks(values: &[i64], n: usize) -> Found
     Found::Nowhere
 }
 
-// The first of n values that is out of range. Every scan of a stored lattice is this one. Fewer than 512 values are one block of their own: so few
-// blocks of 64 would not make up for the values after the last one, which are tested one by one.
+// The first of n values that is out of range. Every scan of a stored lattice is this one. Fewer than 512 values are looked over as one block first:
+// in so few, the values after the last block of 64, tested one by one, could cost more than the blocks save.
 pub fn first_out(values: &[i64], n: usize) -> Found
     requires { ⌜ n ≤ length (now values) ⌝ }
     ensures { λ r. ⌜ ((f : ℕ → rule.Refusal) → rule.rangeCheck n (now (values .entry)) f ≡ foundCheck f r) ⌝ }
@@ -95,5 +95,5 @@ pub fn first_out(values: &[i64], n: usize) -> Found
             return Found::Nowhere;
         }
     }
-    first_past_blocks(values, n)
+    first_by_blocks(values, n)
 }

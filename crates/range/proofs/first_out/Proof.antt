@@ -15,8 +15,8 @@ returns-2 c = search needs
 all-in-range-requires : tie.Need-all-in-range-requires
 all-in-range-requires c κs = (omega arith, (omega arith, noneOut-start _))
 
-first-past-blocks-requires : tie.Need-first-past-blocks-requires
-first-past-blocks-requires c κs = search needs
+first-by-blocks-requires : tie.Need-first-by-blocks-requires
+first-by-blocks-requires c κs = search needs
 
 pub first-out-spec : {M : Type 1} → statement M
-first-out-spec = tie.close (tie.spec all-in-range-requires returns first-past-blocks-requires returns-2)
+first-out-spec = tie.close (tie.spec all-in-range-requires returns first-by-blocks-requires returns-2)

@@ -1,5 +1,4 @@
 -- `range::next` meets its contract: a block that all_in_range passes has no value out of range.
-use Prim.Native.Nat.{_+_}
 use native.Mathlib.Omega.{arith}
 use borrow.Author.Needs.{needs}
 use Rattle.rules.specs.Laws.Checks.{noneOut-less}

@@ -1,4 +1,4 @@
--- `range::range_bits` meets its contract: the two numbers that it joins by "or" are how far z is from either end of the range.
+-- `range::range_bits` meets its contract: the two numbers that it joins by "or" are the 64 bits of how far z is from either end of the range.
 use mathlib.Core.Path.{_≡_, sym, ap, _∙_}
 use Prim.Native.Nat.{_+_, _%_, _^_}
 use native.Mathlib.Omega.{arith}

@@ -175,7 +175,7 @@ noneOut-more i values p t f =
     (then-none (rangeCheck i values f) (require (inRange (getD values i (pos 0))) (f i)) (p f)
     ∙ require-met (inRange (getD values i (pos 0))) (f i) t)
 
--- what it has passed it had passed one value earlier
+-- none before i + 1 is none before i
 pub noneOut-less : (i : ℕ) (values : List ℤ) → NoneOut (i + 1) values → NoneOut i values
 noneOut-less i values p f = size-rangeCheck i values f (λ j l. rangeCheck-size (i + 1) values (λ i. short) (p (λ i. short)) j (omega arith))
 

@@ -1,4 +1,4 @@
--- `range::first_past_blocks` meets its contract. The loop's invariant: no value before i is out of range, so whatever refuses offenders, none is
+-- `range::first_by_blocks` meets its contract. The loop's invariant: no value before i is out of range, so whatever refuses offenders, none is
 -- refused yet.
 use mathlib.Core.Path.{_≡_, sym, subst, _∙_}
 use Prim.Native.Nat.{_-_, _≤_}
@@ -10,8 +10,8 @@ use lib.IntN.{ℤ, pos}
 use lib.ListN.{getD}
 use Rattle.rules.specs.Laws.Checks.{NoneOut, noneOut-start, noneOut-more, noneOut-at}
 use Rattle.range.specs.Scan.{tested}
-use Rattle.range.proofs.first_past_blocks.Statement.{statement}
-use Rattle.range.proofs.first_past_blocks.Tie as tie
+use Rattle.range.proofs.first_by_blocks.Statement.{statement}
+use Rattle.range.proofs.first_by_blocks.Tie as tie
 
 abbrev Inv-loop : tie.InvT-loop
 Inv-loop values n i₀ i = (i ≤ n) × NoneOut i values
@@ -56,8 +56,8 @@ in-range-requires c κs = search needs
 loop-less : tie.Need-loop-less Inv-loop μ-loop
 loop-less c = omega arith
 
-pub first-past-blocks-spec : {M : Type 1} → statement M
-first-past-blocks-spec =
+pub first-by-blocks-spec : {M : Type 1} → statement M
+first-by-blocks-spec =
     tie.close
     (tie.spec
     Inv-loop
