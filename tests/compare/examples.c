@@ -297,10 +297,11 @@ static void first_offender(size_t m, size_t n, int64_t value, int with_last)
     }
 }
 
-/* Lattices of 16, 64, 511, 512, 529 and 576 values: with and without values past the last multiple of 64. */
+/* Lattices of 16, 63, 64, 65, 128, 511, 512, 529 and 576 values: with and without values past the last multiple of 64. */
 static void offender_examples(void)
 {
-    static const size_t cells[][2] = { { 1, 1 }, { 5, 5 }, { 4, 70 }, { 13, 29 }, { 20, 20 }, { 21, 21 } };
+    static const size_t cells[][2] = { { 1, 1 },  { 4, 6 },   { 5, 5 },   { 2, 10 }, { 5, 13 },
+                                       { 4, 70 }, { 13, 29 }, { 20, 20 }, { 21, 21 } };
     size_t at;
 
     begin("every value out of range in turn");

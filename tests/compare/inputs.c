@@ -330,11 +330,15 @@ int64_t wrong_value(generator *g)
     }
 }
 
-/* Beside a multiple of a power of two, where a scan by blocks would turn: of a small one, or the last of 64 that is in count. */
+/*
+ * Beside a place where a scan by blocks would turn: a multiple of a small power of two, the last multiple of 64 that is in
+ * count, or the last 64.
+ */
 static size_t some_turn(generator *g, size_t count)
 {
     const unsigned shift = (unsigned)below(g, 9);
-    const size_t turn = once_in(g, 3) ? count - count % 64 : (1 + below(g, 8)) << shift;
+    const size_t rest = once_in(g, 2) ? count % 64 : 64;
+    const size_t turn = once_in(g, 3) ? count - rest : (1 + below(g, 8)) << shift;
     const size_t index = turn + below(g, 3);
 
     return index > 0 && index <= count ? index - 1 : 0;

@@ -44,29 +44,26 @@ pub fn cells(most: usize, m: usize, n: usize) -> Verdict
     Verdict::Fine
 }
 
-// 2: "U = 16, 32, 64, 128, 256 or 512"
-fn listed_unit(unit: usize) -> Readiness
-    ensures { λ r. ⌜ Tells (unitCheck unit) unit (λ e. e ≤ 9) r ⌝ }
-{
-    match unit {
-        16 => Readiness::Of(4),
-        32 => Readiness::Of(5),
-        64 => Readiness::Of(6),
-        128 => Readiness::Of(7),
-        256 => Readiness::Of(8),
-        512 => Readiness::Of(9),
-        _ => Readiness::Refused(Refusal::Unit),
-    }
-}
-
-// 1 and 2: cells that heights can be read on
+// 1 and 2: cells that heights can be read on, with "U = 16, 32, 64, 128, 256 or 512". e is cast last: the six arms are then one count of U's zeros, with
+// nothing to add to it.
 pub fn gridded(m: usize, n: usize, unit: usize) -> Readiness
     ensures { λ r. ⌜ Tells (gridCheck m n unit) unit (Gridded m n) r ⌝ }
 {
     if let Verdict::Refused(r) = cells(512, m, n) {
         return Readiness::Refused(r);
     }
-    listed_unit(unit)
+    let e = match unit {
+        16 => 4usize,
+        32 => 5,
+        64 => 6,
+        128 => 7,
+        256 => 8,
+        512 => 9,
+        _ => {
+            return Readiness::Refused(Refusal::Unit);
+        }
+    };
+    Readiness::Of(e as u32)
 }
 
 // 6, over a lattice: the first control value out of range

@@ -8,6 +8,7 @@ ghost use Rattle.rules.specs.Grid.{inRange};
 ghost use Rattle.rules.specs.Laws.Checks.{NoneOut};
 ghost use Rattle.answers.specs.Cause.{okCheck};
 ghost use Rattle.range.specs.Found.{foundCheck};
+ghost use Rattle.range.specs.Scan.{SomeOut, FirstOut};
 
 // What a scan finds.
 pub enum Found {
@@ -53,47 +54,61 @@ fn all_in_range(values: &[i64], start: usize, end: usize) -> bool
     bits < 9_223_372_036_854_775_808
 }
 
-// Which value to test after value i, where all up to i are in range: the next one or, if i starts a block of 64 that is all in range, the one after
-// that block.
-fn next(values: &[i64], i: usize, n: usize) -> usize
-    requires { ⌜ i < n ⌝ ∗ ⌜ n ≤ length (now values) ⌝ ∗ ⌜ NoneOut (i + 1) (now values) ⌝ }
-    ensures { λ r. ⌜ i < r ⌝ ∗ ⌜ r ≤ n ⌝ ∗ ⌜ NoneOut r (now (values .entry)) ⌝ }
+// Where the block of 64 begins that holds value i of n and sees it first: at i, or at the last 64 values if fewer are left.
+fn block_start(i: usize, n: usize) -> usize
+    requires { ⌜ i < n ⌝ ∗ ⌜ 64 ≤ n ⌝ }
+    ensures { λ r. ⌜ r ≤ i ⌝ ∗ ⌜ i < r + 64 ⌝ ∗ ⌜ r + 64 ≤ n ⌝ }
 {
-    if i % 64 == 0 {
-        if i + 64 <= n {
-            if all_in_range(values, i, i + 64) {
-                return i + 64;
-            }
-        }
-    }
-    i + 1
+    if i < n - 64 { i } else { n - 64 }
 }
 
-// The first of n values that is out of range: value by value, but for the blocks that are all in range.
-fn first_by_blocks(values: &[i64], n: usize) -> Found
-    requires { ⌜ n ≤ length (now values) ⌝ }
-    ensures { λ r. ⌜ ((f : ℕ → rule.Refusal) → rule.rangeCheck n (now (values .entry)) f ≡ foundCheck f r) ⌝ }
+// How many of n values are passed over, all in range, before a block of 64 that has one out of range; n if no block has.
+fn passed(values: &[i64], n: usize) -> usize
+    requires { ⌜ 64 ≤ n ⌝ ∗ ⌜ n ≤ length (now values) ⌝ }
+    ensures { λ r. ⌜ r ≤ n ⌝ ∗ ⌜ NoneOut r (now (values .entry)) ⌝ ∗ ⌜ (r < n → SomeOut n (now (values .entry))) ⌝ }
 {
     let mut i = 0;
     while i < n {
-        if !in_range(values[i]) {
-            return Found::At(i);
+        let start = block_start(i, n);
+        if !all_in_range(values, start, start + 64) {
+            return start;
         }
-        i = next(values, i, n);
+        i = start + 64;
     }
-    Found::Nowhere
+    n
 }
 
-// The first of n values that is out of range. Every scan of a stored lattice is this one. Fewer than 512 values are looked over as one block first:
-// in so few, the values after the last block of 64, tested one by one, could cost more than the blocks save.
+// The first value out of range, where there is one, and none before `start`.
+fn search(values: &[i64], start: usize) -> usize
+    requires { ⌜ NoneOut start (now values) ⌝ ∗ ⌜ SomeOut (length (now values)) (now values) ⌝ }
+    ensures { λ r. ⌜ FirstOut r (now (values .entry)) ⌝ }
+{
+    let mut i = start;
+    while in_range(values[i]) {
+        i += 1;
+    }
+    i
+}
+
+// The first of n values that is out of range. Every scan of a stored lattice is this one. Fewer than 64 values are one block. Of more, the first
+// is tested alone, so that a lattice that is wrong from its start costs no block.
 pub fn first_out(values: &[i64], n: usize) -> Found
     requires { ⌜ n ≤ length (now values) ⌝ }
     ensures { λ r. ⌜ ((f : ℕ → rule.Refusal) → rule.rangeCheck n (now (values .entry)) f ≡ foundCheck f r) ⌝ }
 {
-    if n < 512 {
+    let mut i = 0;
+    if n < 64 {
         if all_in_range(values, 0, n) {
             return Found::Nowhere;
         }
+    } else {
+        if !in_range(values[0]) {
+            return Found::At(0);
+        }
+        i = passed(values, n);
+        if i == n {
+            return Found::Nowhere;
+        }
     }
-    first_by_blocks(values, n)
+    Found::At(search(values, i))
 }

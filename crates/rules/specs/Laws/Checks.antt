@@ -176,8 +176,8 @@ noneOut-more i values p t f =
     ∙ require-met (inRange (getD values i (pos 0))) (f i) t)
 
 -- none before i + 1 is none before i
-pub noneOut-less : (i : ℕ) (values : List ℤ) → NoneOut (i + 1) values → NoneOut i values
-noneOut-less i values p f = size-rangeCheck i values f (λ j l. rangeCheck-size (i + 1) values (λ i. short) (p (λ i. short)) j (omega arith))
+pub noneOut-less : (i n : ℕ) (values : List ℤ) → i ≤ n → NoneOut n values → NoneOut i values
+noneOut-less i n values h p f = size-rangeCheck i values f (λ j l. rangeCheck-size n values (λ i. short) (p (λ i. short)) j (omega arith))
 
 pub noneOut-at : (n i : ℕ) (values : List ℤ) → NoneOut i values → i < n → inRange (getD values i (pos 0)) ≡ false
     → (f : ℕ → Refusal) → rangeCheck n values f ≡ some (f i)
