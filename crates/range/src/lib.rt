@@ -54,7 +54,7 @@ fn all_in_range(values: &[i64], start: usize, end: usize) -> bool
     bits < 9_223_372_036_854_775_808
 }
 
-// Where the block of 64 begins that holds value i of n and sees it first: at i, or at the last 64 values if fewer are left.
+// Where the block of 64 begins that goes on with value i of n: at i or, if fewer are left, 64 before the end.
 fn block_start(i: usize, n: usize) -> usize
     requires { ⌜ i < n ⌝ ∗ ⌜ 64 ≤ n ⌝ }
     ensures { λ r. ⌜ r ≤ i ⌝ ∗ ⌜ i < r + 64 ⌝ ∗ ⌜ r + 64 ≤ n ⌝ }
@@ -62,7 +62,7 @@ fn block_start(i: usize, n: usize) -> usize
     if i < n - 64 { i } else { n - 64 }
 }
 
-// How many of n values are passed over, all in range, before a block of 64 that has one out of range; n if no block has.
+// How many of n values stand before the first block of 64 that has one out of range; all n if no block has.
 fn passed(values: &[i64], n: usize) -> usize
     requires { ⌜ 64 ≤ n ⌝ ∗ ⌜ n ≤ length (now values) ⌝ }
     ensures { λ r. ⌜ r ≤ n ⌝ ∗ ⌜ NoneOut r (now (values .entry)) ⌝ ∗ ⌜ (r < n → SomeOut n (now (values .entry))) ⌝ }
@@ -78,7 +78,7 @@ fn passed(values: &[i64], n: usize) -> usize
     n
 }
 
-// The first value out of range, where there is one, and none before `start`.
+// The first value out of range, where there is one and none before `start`: value by value, with no end to test for.
 fn search(values: &[i64], start: usize) -> usize
     requires { ⌜ NoneOut start (now values) ⌝ ∗ ⌜ SomeOut (length (now values)) (now values) ⌝ }
     ensures { λ r. ⌜ FirstOut r (now (values .entry)) ⌝ }
@@ -90,8 +90,9 @@ fn search(values: &[i64], start: usize) -> usize
     i
 }
 
-// The first of n values that is out of range. Every scan of a stored lattice is this one. Fewer than 64 values are one block. Of more, the first
-// is tested alone, so that a lattice that is wrong from its start costs no block.
+// The first of n values that is out of range: block by block, and then value by value in the block that has it. Every scan of a stored lattice is
+// this one. Fewer than 64 values are one block. Of more, the first is tested before any block, so that a lattice that is wrong from its start is
+// refused at once.
 pub fn first_out(values: &[i64], n: usize) -> Found
     requires { ⌜ n ≤ length (now values) ⌝ }
     ensures { λ r. ⌜ ((f : ℕ → rule.Refusal) → rule.rangeCheck n (now (values .entry)) f ≡ foundCheck f r) ⌝ }
