@@ -4,7 +4,7 @@ ghost use Prim.Native.Nat.{_≤_};
 ghost use lib.ListN.{length};
 ghost use Rattle.rules.specs.Grid as grid;
 ghost use Rattle.rules.specs.Grid.{controls};
-ghost use Rattle.rules.specs.Calls.{cellsCheck, unitCheck, latticeCheck};
+ghost use Rattle.rules.specs.Calls.{cellsCheck, latticeCheck};
 ghost use Rattle.rules.specs.Laws.Passed.{Gridded};
 ghost use Rattle.answers.specs.Cause.{check};
 ghost use Rattle.checks.specs.Ready.{Tells, gridCheck, storedCheck};
@@ -44,8 +44,8 @@ pub fn cells(most: usize, m: usize, n: usize) -> Verdict
     Verdict::Fine
 }
 
-// 1 and 2: cells that heights can be read on, with "U = 16, 32, 64, 128, 256 or 512". e is cast last: the six arms are then one count of U's zeros, with
-// nothing to add to it.
+// 1 and 2: cells that heights can be read on, with "U = 16, 32, 64, 128, 256 or 512". e is cast last, so that the compiler makes one count of U's
+// trailing zeros of the six arms.
 pub fn gridded(m: usize, n: usize, unit: usize) -> Readiness
     ensures { λ r. ⌜ Tells (gridCheck m n unit) unit (Gridded m n) r ⌝ }
 {

@@ -19,7 +19,7 @@ use Rattle.machine.specs.Tests.{plain}
 use Rattle.rules.specs.Bytes.{complement}
 use Rattle.rules.specs.Grid.{limit, inRange}
 use Rattle.rules.specs.Answers.{Refusal, require, _then_, firstOf, rangeCheck, short}
-use Rattle.rules.specs.Laws.Checks.{NoneOut, noneOut-less, noneOut-at, rangeCheck-size, size-rangeCheck}
+use Rattle.rules.specs.Laws.Checks.{NoneOut, SomeOut, rangeCheck-size, size-rangeCheck}
 use Rattle.answers.specs.Cause.{okCheck}
 
 -- what a test of a stored value tells: it was handed the bits of z, read back
@@ -61,36 +61,12 @@ ok-then false b r = refl
 pub all-noneOut : (n : ℕ) (values : List ℤ) (ok : Bool) → ((r : Refusal) → rangeCheck n values (λ i. r) ≡ okCheck ok r) → ok ≡ true → NoneOut n values
 all-noneOut n values ok e t f = size-rangeCheck n values f (rangeCheck-size n values (λ i. short) (e short ∙ ap (λ b. okCheck b short) t))
 
--- one of the first n values is out of range
-abbrev pub SomeOut : ℕ → List ℤ → Type 0
-SomeOut n values = NoneOut n values → ⊥
-
 -- and where it refuses, one is
 pub all-someOut : (n : ℕ) (values : List ℤ) (ok : Bool) → ((r : Refusal) → rangeCheck n values (λ i. r) ≡ okCheck ok r) → ok ≡ false → SomeOut n values
 all-someOut n values ok e t p = apart (sym (p (λ i. short)) ∙ e short ∙ ap (λ b. okCheck b short) t)
   where
     apart : none ≡ some short → ⊥
     apart e = let z : _≡_ {A = ℕ} 0 1 = cc in omega arith
-
-pub someOut-more : (i n : ℕ) (values : List ℤ) → i ≤ n → SomeOut i values → SomeOut n values
-someOut-more i n values h s p = s (noneOut-less i n values h p)
-
--- it is not among the first i if none of those is
-pub someOut-past : (i n : ℕ) (values : List ℤ) → NoneOut i values → SomeOut n values → i < n
-someOut-past i n values p s = go (leb n i) refl
-  where
-    go : (b : Bool) → leb n i ≡ b → i < n
-    go true t = absurd (s (noneOut-less n i values (leb-true n i t) p))
-    go false t = leb-false n i t
-
--- value i is out of range, and none before it is
-pub record FirstOut (i : ℕ) (values : List ℤ) : Type 0 where
-  pub none-before : NoneOut i values
-  pub out : inRange (getD values i (pos 0)) ≡ false
-
--- so it is the one that a check of n values refuses, if it refuses any
-pub firstOut-found : (n i : ℕ) (values : List ℤ) → SomeOut n values → FirstOut i values → (f : ℕ → Refusal) → rangeCheck n values f ≡ some (f i)
-firstOut-found n i values s p = noneOut-at n i values (p .none-before) (someOut-past i n values (p .none-before) s) (p .out)
 
 -- the top bit of all that was joined is still 0 exactly if none of the first i values is refused
 abbrev pub Scanned : ℕ → ℕ → List ℤ → Type 0

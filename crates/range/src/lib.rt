@@ -5,10 +5,9 @@ ghost use lib.Dec.{ltb};
 ghost use lib.ListN.{length};
 ghost use Rattle.rules.specs.Answers as rule;
 ghost use Rattle.rules.specs.Grid.{inRange};
-ghost use Rattle.rules.specs.Laws.Checks.{NoneOut};
+ghost use Rattle.rules.specs.Laws.Checks.{NoneOut, SomeOut, FirstOut};
 ghost use Rattle.answers.specs.Cause.{okCheck};
 ghost use Rattle.range.specs.Found.{foundCheck};
-ghost use Rattle.range.specs.Scan.{SomeOut, FirstOut};
 
 // What a scan finds.
 pub enum Found {
@@ -91,8 +90,8 @@ fn search(values: &[i64], start: usize) -> usize
 }
 
 // The first of n values that is out of range: block by block, and then value by value in the block that has it. Every scan of a stored lattice is
-// this one. Fewer than 64 values are one block. Of more, the first is tested before any block, so that a lattice that is wrong from its start is
-// refused at once.
+// this one. Fewer than 64 values are one block. Of 64 or more the first is tested before any block, so that a lattice that is wrong from its
+// start is refused at once.
 pub fn first_out(values: &[i64], n: usize) -> Found
     requires { ⌜ n ≤ length (now values) ⌝ }
     ensures { λ r. ⌜ ((f : ℕ → rule.Refusal) → rule.rangeCheck n (now (values .entry)) f ≡ foundCheck f r) ⌝ }

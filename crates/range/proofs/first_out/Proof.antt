@@ -1,13 +1,13 @@
 -- `range::first_out` meets its contract: what the blocks passed is in range, and where a block has a value out of range the search finds the first.
-use mathlib.Core.Path.{_≡_, sym, subst, _∙_}
+use mathlib.Core.Path.{sym, _∙_}
 use mathlib.Core.Logic.{⊎-elim}
 use native.Mathlib.Omega.{arith}
 use borrow.Author.Needs.{needs}
 use borrow.Author.Tests.{not-true}
 use lib.IntN.{pos}
-use lib.ListN.{length, getD}
-use Rattle.rules.specs.Laws.Checks.{NoneOut, noneOut-start, noneOut-at}
-use Rattle.range.specs.Scan.{tested, SomeOut, all-noneOut, all-someOut, someOut-more, firstOut-found}
+use lib.ListN.{getD}
+use Rattle.rules.specs.Laws.Checks.{NoneOut, SomeOut, noneOut-start, noneOut-at, someOut-more, firstOut-found}
+use Rattle.range.specs.Scan.{tested, all-noneOut, all-someOut}
 use Rattle.range.proofs.first_out.Statement.{statement}
 use Rattle.range.proofs.first_out.Tie as tie
 

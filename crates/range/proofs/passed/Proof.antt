@@ -4,8 +4,8 @@ use Prim.Native.Nat.{_-_, _≤_}
 use native.Mathlib.Omega.{arith}
 use borrow.Author.Needs.{needs}
 use borrow.Author.Tests.{not-true, not-false}
-use Rattle.rules.specs.Laws.Checks.{NoneOut, noneOut-start, noneOut-less}
-use Rattle.range.specs.Scan.{all-noneOut, all-someOut, someOut-more}
+use Rattle.rules.specs.Laws.Checks.{NoneOut, noneOut-start, noneOut-less, someOut-more}
+use Rattle.range.specs.Scan.{all-noneOut, all-someOut}
 use Rattle.range.proofs.passed.Statement.{statement}
 use Rattle.range.proofs.passed.Tie as tie
 

@@ -1,13 +1,13 @@
 -- `range::search` meets its contract. The loop's invariant: no value before i is out of range, so the one that is stands at i or after it.
-use mathlib.Core.Path.{_≡_, sym, subst, _∙_}
+use mathlib.Core.Path.{sym, subst, _∙_}
 use Prim.Native.Nat.{_-_, _<_}
 use native.Mathlib.Omega.{arith}
 use borrow.Author.Needs.{needs}
 use lib.Dec.{T}
 use lib.IntN.{ℤ, pos}
 use lib.ListN.{length, getD}
-use Rattle.rules.specs.Laws.Checks.{NoneOut, noneOut-more}
-use Rattle.range.specs.Scan.{tested, someOut-past}
+use Rattle.rules.specs.Laws.Checks.{NoneOut, noneOut-more, someOut-past}
+use Rattle.range.specs.Scan.{tested}
 use Rattle.range.proofs.search.Statement.{statement}
 use Rattle.range.proofs.search.Tie as tie
 

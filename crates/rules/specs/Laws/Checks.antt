@@ -8,6 +8,7 @@ use native.Mathlib.Numerals.{add-one}
 use native.Mathlib.Nat.{not-suc-le-zero}
 use native.Mathlib.Decide.{decLt}
 use native.Mathlib.Omega.{arith}
+use borrow.Author.Tests.{leb-true, leb-false}
 use lib.Dec.{T, leb, eqb, leb→le, le→leb}
 use lib.IntN.{ℤ, pos, natAbs}
 use lib.ListN.{getD}
@@ -175,7 +176,7 @@ noneOut-more i values p t f =
     (then-none (rangeCheck i values f) (require (inRange (getD values i (pos 0))) (f i)) (p f)
     ∙ require-met (inRange (getD values i (pos 0))) (f i) t)
 
--- none before i + 1 is none before i
+-- none of n is none of fewer
 pub noneOut-less : (i n : ℕ) (values : List ℤ) → i ≤ n → NoneOut n values → NoneOut i values
 noneOut-less i n values h p f = size-rangeCheck i values f (λ j l. rangeCheck-size n values (λ i. short) (p (λ i. short)) j (omega arith))
 
@@ -183,6 +184,30 @@ pub noneOut-at : (n i : ℕ) (values : List ℤ) → NoneOut i values → i < n 
     → (f : ℕ → Refusal) → rangeCheck n values f ≡ some (f i)
 unfolding rangeCheck require
 noneOut-at n i values p l out f = firstOf-at n i (λ j. require (inRange (getD values j (pos 0))) (f j)) (f i) (p f) l (rw out)
+
+-- one of the first n values is out of range
+abbrev pub SomeOut : ℕ → List ℤ → Type 0
+SomeOut n values = NoneOut n values → ⊥
+
+pub someOut-more : (i n : ℕ) (values : List ℤ) → i ≤ n → SomeOut i values → SomeOut n values
+someOut-more i n values h s p = s (noneOut-less i n values h p)
+
+-- it is not among the first i if none of those is
+pub someOut-past : (i n : ℕ) (values : List ℤ) → NoneOut i values → SomeOut n values → i < n
+someOut-past i n values p s = go (leb n i) refl
+  where
+    go : (b : Bool) → leb n i ≡ b → i < n
+    go true t = absurd (s (noneOut-less n i values (leb-true n i t) p))
+    go false t = leb-false n i t
+
+-- value i is out of range, and none before it is
+pub record FirstOut (i : ℕ) (values : List ℤ) : Type 0 where
+  pub none-before : NoneOut i values
+  pub out : inRange (getD values i (pos 0)) ≡ false
+
+-- so it is the one that a check of n values refuses, if it refuses any
+pub firstOut-found : (n i : ℕ) (values : List ℤ) → SomeOut n values → FirstOut i values → (f : ℕ → Refusal) → rangeCheck n values f ≡ some (f i)
+firstOut-found n i values s p = noneOut-at n i values (p .none-before) (someOut-past i n values (p .none-before) s) (p .out)
 
 -- ---- answers
 
