@@ -78,12 +78,14 @@ static const struct { const char *words, *place; } refusals[] = {
     { "a lent slice is too short", "0" },
     { "position outside", "the point's or node's index, 0 for a single height or slope" },
     { "height or control value out of range", "its index" },
-    { "a quotient, a residual or a sum out of range in a level of the fit", "the level" },
+    { "a quotient out of range in a level of the fit", "the level" },
     { "step above 8,192, or columns or rows above 8,193", "0" },
     { "record incomplete", "the byte of the record's start" },
     { "wrong mark", "the byte of the record's start" },
     { "field not allowed", "the byte of the field" },
     { "bytes after the end", "the first such byte" },
+    { "a residual out of range in a level of the fit", "the level" },
+    { "a sum out of range in a level of the fit", "the level" },
 };
 
 /* The point file is named, so that the words can be told apart where many hosts run side by side. */

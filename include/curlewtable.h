@@ -23,15 +23,18 @@
  *    4  a lent slice is too short                                                               place 0
  *    5  position outside                           the point's or node's index, 0 for a single height or slope
  *    6  height or control value out of range                                                    its index
- *    7  a quotient, a residual or a sum out of range in a level of the fit                      the level
+ *    7  a quotient out of range in a level of the fit                                           the level
  *    8  step above 8,192, or columns or rows above 8,193                                        place 0
  *    9  record incomplete                                                          the byte of the record's start
  *   10  wrong mark                                                                 the byte of the record's start
  *   11  field not allowed                                                                 the byte of the field
  *   12  bytes after the end                                                               the first such byte
- * A refusal leaves every slice as it was, but for 7: the scratch prefixes are then zero, as after an acceptance, and lattice
- * and residuals are as they were. The order of the checks is 1, 2, 3, 8, 4, then 5 and 6; points in list order, 5 before 6 in a
- * point, elsewhere the whole lattice (6) before positions (5); readers record by record, 9, 10, 11, then 12, then 4.
+ *   13  a residual out of range in a level of the fit                                           the level
+ *   14  a sum out of range in a level of the fit                                                the level
+ * A refusal leaves every slice as it was, but for 7, 13 and 14: the scratch prefixes are then zero, as after an acceptance, and
+ * lattice and residuals are as they were. The order of the checks is 1, 2, 3, 8, 4, then 5 and 6; points in list order, 5 before 6
+ * in a point, elsewhere the whole lattice (6) before positions (5); then the fit's levels one by one, in each all quotients (7),
+ * all residuals (13), all sums (14); readers record by record, 9, 10, 11, then 12, then 4.
  */
 #ifndef CURLEWTABLE_H
 #define CURLEWTABLE_H
@@ -97,7 +100,9 @@ typedef struct {
  * likewise y with n0. Lends: lattice K, residual p, whole scratch 3K + p, f64 scratch 2K (see the macros); longer is fine.
  * Accepted: the cell counts of level h; the lattice and the residuals in their first K and p places. The lattice is read with U = 16.
  * At every position of the grid the height is then accepted, and within h/2 + 1 micrometres of the exact sum of the level surfaces.
- * After acceptance or refusal 7 the named scratch prefixes are zero. Places past the prefixes never change. Refuses 1 to 7.
+ * After acceptance and after refusals 7, 13 and 14 the named scratch prefixes are zero. Places past the prefixes never change.
+ * Refuses 1 to 6; then level by level 7, 13, 14: a quotient, which would be a control value of the level; a residual, what the
+ * level leaves of a point's z; a sum, a control value of the lattices added up so far.
  */
 curlew_cells curlew_fit(size_t m0, size_t n0, size_t h, const uint16_t *x, size_t x_len, const uint16_t *y, size_t y_len,
                         const int64_t *z, size_t z_len, int64_t *lattice, size_t lattice_len, int64_t *residual, size_t residual_len,

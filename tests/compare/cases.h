@@ -10,7 +10,7 @@
 typedef void test_case(generator *g, size_class size);
 
 /*
- * The surface engine. The fits of range_end_case are the last that 7 lets pass and the first that it refuses; those of
+ * The surface engine. The fits of range_end_case are the last that the levels accept and the first that one refuses; those of
  * leap_case are refused in late levels too; those of tie_case have quotients that are exact halves. slope_case also asks for
  * the height, which is refused in the same way.
  */

@@ -88,6 +88,16 @@ static uint64_t run_cases(const options *o)
     return number;
 }
 
+static void print_levels(const char *figure, size_t number)
+{
+    size_t k;
+
+    printf("fits refused for %-10s in level", figure);
+    for (k = 0; k < LEVELS; k++)
+        printf("  %zu: %zu", k, refused_in_level[number][k]);
+    printf("\n");
+}
+
 static void print_compared(void)
 {
     size_t f, n, all = 0;
@@ -105,10 +115,10 @@ static void print_compared(void)
         }
         printf("\n");
     }
-    printf("%-24s", "fits refused in level");
-    for (n = 0; n < LEVELS; n++)
-        printf("  %zu: %zu", n, refused_in_level[n]);
-    printf("\n%zu calls, no difference\n", all);
+    print_levels("a quotient", QUOTIENT_OUT);
+    print_levels("a residual", RESIDUAL_OUT);
+    print_levels("a sum", SUM_OUT);
+    printf("%zu calls, no difference\n", all);
 }
 
 static int usage(void)

@@ -55,7 +55,7 @@ static void set_heights(draft *d, const int64_t share[MOST_SHARES], int64_t size
         z[at] = size * share[at] / 8;
 }
 
-/* A size whose fit is accepted while the next one's is refused by 7; LIMIT if none was found. */
+/* A size whose fit is accepted while a level refuses the next one's; LIMIT if none was found. */
 static int64_t last_accepted(draft *d, const int64_t share[MOST_SHARES])
 {
     int64_t accepted = 0, refused = LIMIT + 1;

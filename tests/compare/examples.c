@@ -79,15 +79,37 @@ static void lone_point(void)
     need(&d, memcmp(values_of(&d, LATTICE), lattice, sizeof lattice) == 0 && values_of(&d, RESIDUAL)[0] == 0);
 }
 
+/* Three shots at one place, the first 8,000 metres above the others. */
+static void residual_out(void)
+{
+    static const uint16_t at[] = { 8, 8, 8 };
+    static const int64_t z[] = { 4000000000, -4000000000, -4000000000 };
+    const draft d = fit_of(0, at, at, z, COUNT(z));
+
+    begin("fit with a residual out of range");
+    expect(&d, RESIDUAL_OUT, 0, 0, 0);
+}
+
+/* A height and a depth, which level 1 tells apart. */
+static void sum_out(void)
+{
+    static const uint16_t at[] = { 16, 0 };
+    static const int64_t z[] = { 3500000000, -2500000000 };
+    const draft d = fit_of(1, at, at, z, COUNT(z));
+
+    begin("fit with a sum out of range");
+    expect(&d, SUM_OUT, 1, 0, 0);
+}
+
 /* A residual and a sum that both leave the range in level 1. */
-static void refused_in_level_1(void)
+static void residual_before_sum(void)
 {
     static const uint16_t x[] = { 21, 21, 30, 12, 10, 15 }, y[] = { 24, 22, 13, 23, 9, 30 };
     static const int64_t z[] = { -3970333579, 1489305574, 3501600967, -2550897526, -3825073091, 3081664388 };
     const draft d = fit_of(1, x, y, z, COUNT(z));
 
-    begin("fit refused in level 1");
-    expect(&d, 7, 1, 0, 0);
+    begin("fit with a residual and a sum out of range");
+    expect(&d, RESIDUAL_OUT, 1, 0, 0);
 }
 
 static void no_points(void)
@@ -105,12 +127,14 @@ static void fit_examples(void)
 {
     lone_point();
     fit_example("fit of z 2,200,000,000", 0, 0, 2200000000, 0);
-    fit_example("fit of z 2,300,000,000", 0, 0, 2300000000, 7);
+    fit_example("fit of z 2,300,000,000", 0, 0, 2300000000, QUOTIENT_OUT);
     fit_example("fit of x 16", 0, 16, 9, 0);
     fit_example("fit of x 17", 0, 17, 9, 5);
     fit_example("fit of h 5", 5, 0, 9, 0);
     fit_example("fit of h 6", 6, 0, 9, 2);
-    refused_in_level_1();
+    residual_out();
+    sum_out();
+    residual_before_sum();
     no_points();
 }
 

@@ -38,7 +38,7 @@ const size_t capacity[SLICES] = {
 };
 
 size_t compared[FUNCTIONS][MOST_NUMBER + 1];
-size_t refused_in_level[LEVELS];
+size_t refused_in_level[MOST_NUMBER + 1][LEVELS];
 
 enum { LIBRARY, REFERENCE, SIDES };
 
@@ -212,12 +212,12 @@ static int untouched(const unsigned char *guard, size_t bytes)
 
 /* ---- what the header says, whatever the reference does ---- */
 
-/* How many elements, from the first, a fit with this answer may change: after 7 only scratch. */
+/* How many elements, from the first, a fit with this answer may change: after 7, 13 and 14 only scratch. */
 static size_t fit_may_change(const call *c, uint64_t number, role r)
 {
     const size_t *v = c->number, points = c->slice[Z].length;
 
-    if (number != 0 && (number != 7 || r == LATTICE || r == RESIDUAL))
+    if (number != 0 && (!in_levels(number) || r == LATTICE || r == RESIDUAL))
         return 0;
     switch (r) {
     case LATTICE:
@@ -395,8 +395,8 @@ answer trial(const call *c)
         if (takes(c->function, r))
             compare_slice(c, answers[LIBRARY], r, images[LIBRARY][r], images[REFERENCE][r]);
     compared[c->function][answers[LIBRARY].field[NUMBER]]++;
-    if (answers[LIBRARY].field[NUMBER] == 7)
-        refused_in_level[answers[LIBRARY].field[PLACE]]++;
+    if (in_levels(answers[LIBRARY].field[NUMBER]))
+        refused_in_level[answers[LIBRARY].field[NUMBER]][answers[LIBRARY].field[PLACE]]++;
 
     for (r = X; r < SLICES; r++)
         if (writes(c->function, r) && c->slice[r].length > 0)

@@ -15,9 +15,9 @@ extern const size_t capacity[SLICES];
 /* How many calls of each function were compared, by the number of the answer. */
 extern size_t compared[FUNCTIONS][MOST_NUMBER + 1];
 
-/* How many fits were refused by 7, by the level. */
+/* How many fits a level refused, by the number and the level. */
 #define LEVELS 6
-extern size_t refused_in_level[LEVELS];
+extern size_t refused_in_level[MOST_NUMBER + 1][LEVELS];
 
 /* Names the calls that follow, for the report, and settles where their slices lie between the fences. */
 void trial_name(const char *name, uint64_t seed);

@@ -1,8 +1,8 @@
 /*
- * A second implementation of document 01 and of document 02's job 1, written from
+ * A second implementation of document 01 and of document 02's jobs 1 and 3, written from
  * their text: its author had document 01 and the interface reference.h, and the later
- * author of the slopes that job's text too, and this file as it stood. Neither had the
- * definitions, nor the library's code, nor any paper that explains them.
+ * authors of the slopes and of refusals 13 and 14 their job's text too, and this file as it
+ * stood. None had the definitions, nor the library's code, nor any paper that explains them.
  * README.md says how they read what the text leaves open.
  *
  * Compile with
@@ -444,12 +444,18 @@ static int add_level(int64_t *restrict running, const int64_t *restrict level, s
     return good;
 }
 
-/* "a quotient, then a residual, then a sum out of range in a level": why a level is refused, and its number. */
+/*
+ * "a quotient, then a residual, then a sum out of range in a level": why a level is refused, and its number.
+ * Job 3 keeps 7 for a quotient and gives the other two numbers of their own.
+ */
 typedef enum { NONE, QUOTIENT, RESIDUAL, SUM } cause;
 
-static const uint64_t number_of[] = { [NONE] = 0, [QUOTIENT] = 7, [RESIDUAL] = 7, [SUM] = 7 };
+static const uint64_t number_of[] = { [NONE] = 0, [QUOTIENT] = 7, [RESIDUAL] = 13, [SUM] = 14 };
 
-/* Level k of the fit. kept, if any, receives the level lattice. */
+/*
+ * Level k of the fit: all its quotients before its residuals, and all these before its sums, of which
+ * level 0 has none. kept, if any, receives the level lattice.
+ */
 static cause run_level(fit_work *f, size_t k, int64_t *kept)
 {
     size_t m = f->m0 << k, n = f->n0 << k, places = lattice_places(m, n);
@@ -475,7 +481,7 @@ static cause run_level(fit_work *f, size_t k, int64_t *kept)
 
 /*
  * Both fits; ref_fit lends no levels. All work is done in the scratch, as a refusal in a
- * level leaves lattice and residuals as they were.
+ * level, 7, 13 or 14, leaves lattice and residuals as they were.
  */
 ref_cells ref_fit_levels(size_t m0, size_t n0, size_t h,
                          const uint16_t *x, size_t x_len, const uint16_t *y, size_t y_len,

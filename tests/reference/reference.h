@@ -1,6 +1,7 @@
 /*
- * A second implementation of the ground lattice of document 01 and of the slopes
- * of document 02's first job, in plain C99, written from their text.
+ * A second implementation of the ground lattice of document 01, of the slopes of
+ * document 02's first job and of the refusals 13 and 14 of its third, in plain C99,
+ * written from their text.
  *
  * Every call checks its arguments itself, refuses as the documents say and then
  * leaves the slices as they say. Any argument may have any value; a

@@ -1,6 +1,6 @@
 -- What the fit answers and leaves: a refusal before the levels is the rules' and leaves all as it was; what `run` leaves, cleared, is the rules'.
-use mathlib.Core.Path.{_≡_, refl, sym, ap, subst, _∙_}
-use mathlib.Core.Bool.{false, _&&_}
+use mathlib.Core.Path.{_≡_, sym, subst}
+use mathlib.Core.Bool.{_&&_}
 use mathlib.Core.Option.{none, some}
 use mathlib.Core.List.{List}
 use Prim.Native.Nat.{ℕ, _+_, _-_, _*_, _≤_}
@@ -14,31 +14,18 @@ use Rattle.algebra.specs.Table.{over}
 use Rattle.rules.specs.Grid.{cellsAt, controls}
 use Rattle.rules.specs.Level.{zero64}
 use Rattle.rules.specs.Fit.{Shape, columns, rows, Survey, pointCount, levelsCheck}
-use Rattle.rules.specs.Answers.{Refusal, cells, levels, lists, short, position, range, inLevels, Check, _then_, Answer, refused, outcome}
-use Rattle.rules.specs.Calls.{CellCounts, Lent, lent, K, surveyCheck, cellsCheck, hCheck, listsCheck, roomCheck, lentCheck, pointCheck, pointsCheck, fitCheck, cleared, fitEnd, fitCall}
+use Rattle.rules.specs.Answers.{Refusal, short, _then_, Answer, refused, outcome}
+use Rattle.rules.specs.Calls.{CellCounts, Lent, lent, K, surveyCheck, roomCheck, lentCheck, pointsCheck, cleared, fitEnd, fitCall}
 use Rattle.rules.specs.Demand3.{Demand3}
-use Rattle.rules.specs.Laws.Checks.{Only, only-require, only-then, only-firstOf, required, then-assoc}
+use Rattle.rules.specs.Laws.Checks.{required}
 use Rattle.rules.specs.Laws.Passed.{Sides, Surveyed, level-sides, points-passed, controls-fit}
+use Rattle.rules.specs.Laws.Refused.{earlyCheck, grouped, early-only}
 use Rattle.rules.specs.Laws.Distance.{demand3}
 use Rattle.scratch.specs.Scratch.{Levelable, Celled}
 
 -- ---- the fit
 
 module _ (a : Shape) (s : Survey) (l : Lent) where
-  -- the checks before the levels
-  abbrev earlyCheck : Check
-  earlyCheck = surveyCheck a s then lentCheck a (pointCount s) l then pointsCheck 16 (columns a (a .h)) (rows a (a .h)) s
-
-  grouped : fitCheck a s l ≡ (earlyCheck then levelsCheck a s)
-  unfolding fitCheck
-  grouped = sym (then-assoc _ _ _ ∙ ap (λ c. surveyCheck a s then c) (then-assoc _ _ _))
-
-  early : Only (λ r. inLevels r ≡ false) earlyCheck
-  unfolding surveyCheck cellsCheck hCheck listsCheck lentCheck roomCheck pointsCheck pointCheck
-  early =
-      only-then (only-then (only-require _ cells refl) (only-then (only-require _ levels refl) (only-require _ lists refl)))
-      (only-then (only-require _ short refl) (only-firstOf (pointCount s) _ (λ i. only-then (only-require _ (position i) refl) (only-require _ (range i) refl))))
-
   -- what the contract says of an answer and the four slices
   abbrev Promised : Answer CellCounts → Lent → Type 0
   Promised t n = (outcome t n ≡ fitCall a s l) × Demand3 a s t (n .lattice)
@@ -46,9 +33,9 @@ module _ (a : Shape) (s : Survey) (l : Lent) where
   promised : {t : Answer CellCounts} {n : Lent} → outcome t n ≡ fitCall a s l → Promised t n
   promised e = (e, subst (λ o. Demand3 a s (o .answered) (o .slices .lattice)) (sym e) (demand3 a s l))
 
-  refused-early : {r : Refusal} → earlyCheck ≡ some r → Promised (refused r) l
+  refused-early : {r : Refusal} → earlyCheck a s l ≡ some r → Promised (refused r) l
   unfolding fitCall fitEnd _then_
-  refused-early {r} e = promised (rw (grouped, e, early .only r e))
+  refused-early {r} e = promised (rw (grouped a s l, e, early-only a s l .only r e))
 
   pub refused-head : {r : Refusal} → surveyCheck a s ≡ some r → Promised (refused r) l
   unfolding _then_
@@ -71,7 +58,7 @@ module _ (a : Shape) (s : Survey) (l : Lent) where
           → Promised t (lent (n .lattice) (n .residual) whole floats)
       unfolding fitCall cleared _then_
       run-cleared {t} {most} n points most-is ends w f =
-          promised (rw (grouped, head, room, points, w, f, most-is) ends)
+          promised (rw (grouped a s l, head, room, points, w, f, most-is) ends)
 
 -- ---- what the checks before the levels have shown
 

@@ -1,6 +1,5 @@
 -- What the levels leave, once it is cleared, is the rules' end of the fit.
-use mathlib.Core.Path.{_≡_, refl, sym, ap, ap₂, _∙_}
-use mathlib.Core.Bool.{true}
+use mathlib.Core.Path.{_≡_, sym, ap, ap₂, _∙_}
 use mathlib.Core.Option.{none, some}
 use mathlib.Core.List.{List, _++_}
 use Prim.Native.Nat.{ℕ, _+_, _-_, _*_, _%_, _≤_}
@@ -12,20 +11,12 @@ use lib.Seq.{take-all}
 use Rattle.algebra.specs.Table.{Free, over, laid, area, laid-part, area-laid, over-past, free-length, free-drop}
 use Rattle.rules.specs.Grid.{cellsAt}
 use Rattle.rules.specs.Level.{zero64}
-use Rattle.rules.specs.Fit.{Shape, columns, rows, Survey, survey, singleLattice, lastResiduals, quotientCheck, residualCheck, sumCheck, levelCheck, levelsCheck}
-use Rattle.rules.specs.Answers.{Refusal, quotient, inLevels, Check, accepted, refused, outcome}
+use Rattle.rules.specs.Fit.{Shape, columns, rows, Survey, survey, singleLattice, lastResiduals, levelsCheck}
+use Rattle.rules.specs.Answers.{Refusal, Check, accepted, refused, outcome}
 use Rattle.rules.specs.Calls.{lent, K, results, cleared, fitEnd}
-use Rattle.rules.specs.Laws.Checks.{Only, only-require, only-then, only-firstOf, only-rangeCheck}
+use Rattle.rules.specs.Laws.Refused.{levels-only}
 use Rattle.lowering.specs.Lowered.{surveyAt}
 use Rattle.scratch.specs.Scratch.{Levelable, Levelled}
-
--- ---- which refusals are those of the levels
-
-levels-late : (a : Shape) (s : Survey) → Only (λ r. inLevels r ≡ true) (levelsCheck a s)
-unfolding levelsCheck levelCheck quotientCheck residualCheck sumCheck
-levels-late a s =
-    only-firstOf (a .h + 1) _ (λ k.
-    only-then (only-firstOf _ _ (λ q. only-require _ (quotient k) refl)) (only-then (only-rangeCheck _ _ _ (λ i. refl)) (only-rangeCheck _ _ _ (λ i. refl))))
 
 -- ---- what the levels leave, once it is cleared
 
@@ -85,7 +76,7 @@ module _ {a : Shape} {xs ys : List ℕ} {zs : List ℤ} {most F : ℕ} (whole : 
     unfolding fitEnd
     run-refused {r} e =
         let refuses : levelsCheck a s ≡ some r = sym (done .is) ∙ e in
-        rw (refuses, levels-late a s .only r refuses, scratch-cleared lattice residual)
+        rw (refuses, levels-only a s .only r refuses, scratch-cleared lattice residual)
 
     pub run-accepted : {m n : ℕ} {l r : List ℤ} → found ≡ none → m ≡ cellsAt (a .m0) (a .h) → n ≡ cellsAt (a .n0) (a .h)
         → l ≡ over (area (a .h % 2 * most) most now) lattice → r ≡ over (area (3 * most) many now) residual

@@ -1,35 +1,22 @@
--- What a refinement promises beyond its equations with the rules: "Refine never gives 7", and the values that an accepted one writes are in range.
-use mathlib.Core.Path.{_≡_, refl, subst}
-use mathlib.Core.Bool.{false, _&&_}
+-- What a refinement promises beyond its equations with the rules: "Refine never gives 7", nor 13 or 14, and the values that an accepted one writes are in
+-- range.
+use mathlib.Core.Path.{_≡_, subst}
 use mathlib.Core.Option.{none}
 use mathlib.Core.List.{List}
 use Prim.Native.Nat.{ℕ, _*_}
-use native.Mathlib.Omega.{arith}
-use lib.Dec.{leb}
 use lib.IntN.{ℤ, pos}
-use lib.ListN.{length}
 use Rattle.algebra.specs.Table.{over, getD-over}
-use Rattle.rules.specs.Grid.{limit, within, controls, control, store}
+use Rattle.rules.specs.Grid.{limit, controls, control, store}
 use Rattle.rules.specs.Refinement.{refined}
-use Rattle.rules.specs.Answers.{Refusal, cells, short, range, number, inLevels, accepted, refused, outcome}
-use Rattle.rules.specs.Calls.{CellCounts, cellsCheck, latticeCheck, refineCheck, refineCall}
-use Rattle.rules.specs.Laws.Checks.{Only, only-require, only-then, only-rangeCheck, then-rest, AllInRange}
+use Rattle.rules.specs.Answers.{Refusal, number, accepted, refused, outcome}
+use Rattle.rules.specs.Calls.{CellCounts, refineCheck, refineCall}
+use Rattle.rules.specs.Laws.Checks.{then-rest, AllInRange, NotOfLevels, not-of-levels}
 use Rattle.rules.specs.Laws.Checks.{call-unrefused, call-value, call-after, call-refusal}
 use Rattle.rules.specs.Laws.Passed.{lattice-passed}
+use Rattle.rules.specs.Laws.Refused.{refine-only}
 use Rattle.rules.specs.Laws.Surface.{Bounded, control-within, refined-within, length-store, store-within}
 use Rattle.answers.specs.CellsTold.{told}
 use Rattle.answers.specs.declared.CellsTold.{CellsTold}
-
--- a refusal that no level gave
-abbrev pub Before7 : Refusal → Type 0
-Before7 r = (inLevels r ≡ false) × (number r ≡ 7 → ⊥)
-
-before-7 : (m n : ℕ) (l o : List ℤ) → Only Before7 (refineCheck m n l o)
-unfolding refineCheck cellsCheck latticeCheck
-before-7 m n l o =
-    only-then (only-require (within 1 256 m && within 1 256 n) cells (refl, λ e. omega arith))
-    (only-then (only-require (leb (controls m n) (length l) && leb (controls (2 * m) (2 * n)) (length o)) short (refl, λ e. omega arith))
-    (only-rangeCheck (controls m n) l range (λ i. (refl, λ e. omega arith))))
 
 -- what its checks leave: control values in range, old and new
 new-values : (m n : ℕ) (l o : List ℤ) → refineCheck m n l o ≡ none → Bounded (2 * m) (2 * n) (refined (control m l)) limit
@@ -39,9 +26,9 @@ new-values m n l o e = refined-within m n (control m l) limit (control-within m 
 -- ---- the promises
 
 module _ (m n : ℕ) (lattice before after : List ℤ) (r : CellsTold) (rules : outcome (told r) after ≡ refineCall m n lattice before) where
-  pub never-7 : (f : Refusal) → told r ≡ refused f → Before7 f
+  pub never-7-13-14 : (f : Refusal) → told r ≡ refused f → NotOfLevels (number f)
   unfolding refineCall
-  never-7 f e = before-7 m n lattice before .only f (call-refusal _ _ _ before (told r) after rules f e)
+  never-7-13-14 f e = not-of-levels f (refine-only m n lattice before .only f (call-refusal _ _ _ before (told r) after rules f e))
 
   module _ (c : CellCounts) (e : told r ≡ accepted c) where
     written : after ≡ over (store (2 * m) (2 * n) (refined (control m lattice))) before

@@ -36,7 +36,7 @@ pub data Refusal : Type 0 where
   -- "bytes after the end": the first such byte
   trailing : ℕ → Refusal
 
--- the column "Number"
+-- the column "Number", and "13 for a residual and 14 for a sum" of document 02
 abbrev pub number : Refusal → ℕ
 number cells = 1
 number levels = 2
@@ -46,8 +46,8 @@ number short = 4
 number (position i) = 5
 number (range i) = 6
 number (quotient k) = 7
-number (residual k) = 7
-number (sum k) = 7
+number (residual k) = 13
+number (sum k) = 14
 number size = 8
 number (incomplete b) = 9
 number (mark b) = 10

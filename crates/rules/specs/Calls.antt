@@ -196,7 +196,7 @@ cleared a p lent = record {
   floats = over (replicate (2 * K a) zero64) (lent .floats);
 }
 
--- "After acceptance or refusal 7 the named scratch prefixes are zero"
+-- "After acceptance or refusal 7 the named scratch prefixes are zero"; after 13 and 14 "the same slices left and the scratch zero as after 7"
 unfoldable pub fitEnd : Shape → Survey → Lent → Check → Outcome CellCounts Lent
 fitEnd a s lent none = outcome (accepted (finest a)) (cleared a (pointCount s) (results a s lent))
 fitEnd a s lent (some r) = outcome (refused r) (cond (inLevels r) (cleared a (pointCount s) lent) lent)

@@ -2,6 +2,7 @@ pub mod Basis
 pub mod Bytes
 pub mod Checks
 pub mod Passed
+pub mod Refused
 pub mod Rounding
 pub mod Surface
 pub mod Slope

@@ -1,6 +1,7 @@
 -- Laws of checks: what an accepted run of checks has shown, and which offender a refusal names.
 use mathlib.Core.Path.{_≡_, refl, sym, _∙_, ap, ap₂, subst}
-use mathlib.Core.Bool.{Bool, true, false}
+use mathlib.Core.Bool.{Bool, true, false, _||_}
+use mathlib.Core.Logic.{_⊎_, ⊎-elim, inl, inr}
 use mathlib.Core.Option.{none, some}
 use mathlib.Core.List.{List}
 use Prim.Native.Nat.{ℕ, zero, suc, _+_, _≤_, _<_}
@@ -32,6 +33,11 @@ unfolding require
 require-met true r t = refl
 require-met false r t = absurd t
 
+pub require-failed : (b : Bool) (r s : Refusal) → require b r ≡ some s → b ≡ false
+unfolding require
+require-failed true r s e = let z : true ≡ false = cc in z
+require-failed false r s e = refl
+
 pub within-bounds : (low high v : ℕ) → T (within low high v) → (low ≤ v) × (v ≤ high)
 unfolding within
 within-bounds low high v t = let p = and-yes (leb low v) (leb v high) t in (leb→le low v (p .0), leb→le v high (p .1))
@@ -62,6 +68,12 @@ then-none c d e = rw e refl
 pub then-some : (c d : Check) {r : Refusal} → c ≡ some r → (c then d) ≡ some r
 unfolding _then_
 then-some c d e = rw e refl
+
+-- a refusal is of the first, or the first refuses nothing and it is of the second
+pub then-found : (c d : Check) (r : Refusal) → (c then d) ≡ some r → (c ≡ some r) ⊎ ((c ≡ none) × (d ≡ some r))
+unfolding _then_
+then-found none d r e = inr (refl, e)
+then-found (some s) d r e = inl e
 
 pub then-assoc : (c d e : Check) → ((c then d) then e) ≡ (c then d then e)
 unfolding _then_
@@ -102,6 +114,22 @@ firstOf-at (suc n) i f r e l s = go (decLt i n) (firstOf-at n i f r e)
     go : Dec (i < n) → (i < n → f i ≡ some r → firstOf n f ≡ some r) → (firstOf n f then f n) ≡ some r
     go (yes k) ih = rw (ih k s) refl
     go (no g) ih = let same : i ≡ n = omega arith in then-none (firstOf n f) (f n) (rw (sym same) e) ∙ rw (sym same) s
+
+-- a refusal is of the first that refuses
+pub record FirstRefused (n : ℕ) (f : ℕ → Check) (r : Refusal) : Type 0 where
+  pub at : ℕ
+  pub below : at < n
+  pub none-before : firstOf at f ≡ none
+  pub refuses : f at ≡ some r
+
+pub firstOf-found : (n : ℕ) (f : ℕ → Check) (r : Refusal) → firstOf n f ≡ some r → FirstRefused n f r
+unfolding firstOf
+firstOf-found zero f r e = let z : _≡_ {A = ℕ} 0 1 = cc in absurd (omega arith)
+firstOf-found (suc n) f r e =
+    ⊎-elim
+    (λ first. let q = firstOf-found n f r first in record { at = q .at; below = omega (arith, q .below); none-before = q .none-before; refuses = q .refuses })
+    (λ last. record { at = n; below = omega arith; none-before = last .0; refuses = last .1 })
+    (then-found (firstOf n f) (f n) r e)
 
 -- ---- what every refusal of a check is
 
@@ -209,10 +237,18 @@ pub record FirstOut (i : ℕ) (values : List ℤ) : Type 0 where
 pub firstOut-found : (n i : ℕ) (values : List ℤ) → SomeOut n values → FirstOut i values → (f : ℕ → Refusal) → rangeCheck n values f ≡ some (f i)
 firstOut-found n i values s p = noneOut-at n i values (p .none-before) (someOut-past i n values (p .none-before) s) (p .out)
 
+-- a check of n values that refuses one has found the first that is out of range
+pub rangeCheck-found : (n : ℕ) (values : List ℤ) (f : ℕ → Refusal) (r : Refusal) → rangeCheck n values f ≡ some r → (i : ℕ) × (i < n) × FirstOut i values
+unfolding rangeCheck
+rangeCheck-found n values f r e =
+    let q = firstOf-found n (λ i. require (inRange (getD values i (pos 0))) (f i)) r e in
+    let before : NoneOut (q .at) values = λ g. size-rangeCheck (q .at) values g (rangeCheck-size (q .at) values f (q .none-before)) in
+    (q .at, q .below, record { none-before = before; out = require-failed _ (f (q .at)) r (q .refuses) })
+
 -- ---- answers
 
--- the fit had begun its levels exactly if the number is 7
-pub in-levels : (r : Refusal) → inLevels r ≡ eqb (number r) 7
+-- the fit had begun its levels exactly if the number is 7, 13 or 14
+pub in-levels : (r : Refusal) → inLevels r ≡ (eqb (number r) 7 || eqb (number r) 13 || eqb (number r) 14)
 in-levels cells = refl
 in-levels levels = refl
 in-levels unit = refl
@@ -228,6 +264,15 @@ in-levels (incomplete b) = refl
 in-levels (mark b) = refl
 in-levels (field b) = refl
 in-levels (trailing b) = refl
+
+-- a number that no level of a fit gives
+abbrev pub NotOfLevels : ℕ → Type 0
+NotOfLevels n = (n ≡ 7 → ⊥) × (n ≡ 13 → ⊥) × (n ≡ 14 → ⊥)
+
+pub not-of-levels : (r : Refusal) → inLevels r ≡ false → NotOfLevels (number r)
+not-of-levels r before =
+    let never : inLevels r ≡ true → ⊥ = λ e. subst T (sym e ∙ before) tt in
+    (λ n. never (in-levels r ∙ rw n refl), λ n. never (in-levels r ∙ rw n refl), λ n. never (in-levels r ∙ rw n refl))
 
 -- no refusal has the number of an acceptance
 pub number-some : (r : Refusal) → number r ≡ 0 → ⊥
