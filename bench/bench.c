@@ -189,6 +189,17 @@ static job *fit_job(size_t cells, size_t h, size_t points)
     return j;
 }
 
+/* The same with a wrong last shot, 4,000 metres below the datum: what level 0 leaves of it is out of range. */
+static job *wrong_shot_job(size_t cells, size_t h, size_t points)
+{
+    job *j = fit_job(cells, h, points);
+    int64_t *z = j->call.slice[Z].at;
+
+    z[points - 1] = INT64_C(-4000000000);
+    j->number = RESIDUAL_OUT;
+    return j;
+}
+
 /* Heights or slopes. */
 static job *positions_job(function f, size_t cells)
 {
@@ -339,6 +350,7 @@ static void calls_table(void)
     line("fit, 500 points, 1 x 1, h = 4", fit_job(1, 4, 500));
     line("fit, 5,000 points, 4 x 4, h = 5", fit_job(4, 5, 5000));
     line("fit, 65,535 points, 16 x 16, h = 5", fit_job(16, 5, 65535));
+    line("fit, 5,000 points, a residual is out of range", wrong_shot_job(4, 5, 5000));
     line("height, 1 x 1", positions_job(HEIGHT_AT, 1));
     line("height, 64 x 64 (a scan of 4,489 values)", positions_job(HEIGHT_AT, 64));
     line("slopes, 1 x 1", positions_job(SLOPE_AT, 1));

@@ -1,4 +1,5 @@
 // The answers as C is handed them, a struct for each kind: number 0 for an acceptance, and values of 0 for a refusal.
+// A refusal's place is taken before its number: the other way round the compiler makes one jump of both, and the loops before it pay for its registers.
 ghost use mathlib.Core.Path.{_≡_};
 ghost use Rattle.answers.specs.CellsTold as cellsTold;
 ghost use Rattle.answers.specs.CountTold as countTold;
@@ -63,8 +64,8 @@ pub fn cells(answer: CellsTold) -> CellsAnswer
             n,
         },
         CellsTold::Refused(r) => CellsAnswer {
-            number: answers::number(r),
             place: answers::place(r),
+            number: answers::number(r),
             m: 0,
             n: 0,
         },
@@ -81,8 +82,8 @@ pub fn height(answer: Reading) -> HeightAnswer
             height: z,
         },
         Reading::Refused(r) => HeightAnswer {
-            number: answers::number(r),
             place: answers::place(r),
+            number: answers::number(r),
             height: 0,
         },
     }
@@ -99,8 +100,8 @@ pub fn slope(answer: Sloped) -> SlopeAnswer
             along_y: s.along_y,
         },
         Sloped::Refused(r) => SlopeAnswer {
-            number: answers::number(r),
             place: answers::place(r),
+            number: answers::number(r),
             along_x: 0,
             along_y: 0,
         },
@@ -117,8 +118,8 @@ pub fn count(answer: CountTold) -> CountAnswer
             count: q,
         },
         CountTold::Refused(r) => CountAnswer {
-            number: answers::number(r),
             place: answers::place(r),
+            number: answers::number(r),
             count: 0,
         },
     }
@@ -137,8 +138,8 @@ pub fn header(answer: PointsRead) -> HeaderAnswer
             points: a.points,
         },
         PointsRead::Refused(r) => HeaderAnswer {
-            number: answers::number(r),
             place: answers::place(r),
+            number: answers::number(r),
             m0: 0,
             n0: 0,
             h: 0,

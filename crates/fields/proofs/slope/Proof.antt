@@ -14,11 +14,11 @@ enum-known-answer c = search needs
 enum-known-answer-2 : tie.Need-enum-known-answer-2
 enum-known-answer-2 c = search needs
 
-number-requires : tie.Need-number-requires
-number-requires c κs = search needs
-
 place-requires : tie.Need-place-requires
 place-requires c κs = search needs
+
+number-requires : tie.Need-number-requires
+number-requires c κs = search needs
 
 returns : tie.Need-returns
 returns c =
@@ -29,9 +29,9 @@ returns c =
 
 returns-2 : tie.Need-returns-2
 returns-2 c =
-    rw (c .before .number .ensures, c .place .ensures) (ap (λ t. slopeFields (told t)) (sym (c .before .before .before .answer2 .given .1)))
+    rw (c .before .place .ensures, c .number .ensures) (ap (λ t. slopeFields (told t)) (sym (c .before .before .before .answer2 .given .1)))
 
 pub slope-spec : {M : Type 1} → statement M
 slope-spec =
     tie.close
-    (tie.spec enum-known-answer enum-known-answer-2 number-requires place-requires returns returns-2)
+    (tie.spec enum-known-answer enum-known-answer-2 place-requires number-requires returns returns-2)
