@@ -35,8 +35,8 @@ size_t some_point_count(generator *g, size_class size);
 void every_file_damage(int few_values);
 
 /*
- * The examples of document 01 by their printed values, slopes of document 02 by known ones, and each value of some lattices
- * out of range in turn; returns how many examples there are.
+ * The examples of document 01 by their printed values, slopes of document 02 by known ones, a fit refused for each figure of a
+ * level, and each value of some lattices out of range in turn; returns how many examples there are.
  */
 size_t run_examples(void);
 

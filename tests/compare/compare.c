@@ -3,11 +3,11 @@
  *
  *   compare [--vectors DIR] [--small] [--case N] [seconds [seed]]
  *
- * First come the examples of document 01 and of the slopes of document 02, lattices with each value out of range in turn,
- * with --vectors every line of the outside vectors of that folder, and every damage of a small file; then random cases for
- * about so many seconds (30). --small leaves out the larger cases, for slow tools. Prints how many calls were compared, by
- * function and answer. At the first difference it prints the call and its case number N, and exits with status 1;
- * "compare --case N 0 seed" runs that case alone.
+ * First come the examples of documents 01 and 02, lattices with each value out of range in turn, with --vectors every line of
+ * the outside vectors of that folder, and every damage of a small file; then random cases for about so many seconds (30).
+ * --small leaves out the larger cases, for slow tools. Prints how many calls were compared, by function and answer. At the
+ * first difference it prints the call and its case number N, and exits with status 1; "compare --case N 0 seed" runs that case
+ * alone.
  */
 #define _POSIX_C_SOURCE 200809L         /* alarm */
 

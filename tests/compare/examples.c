@@ -1,6 +1,6 @@
 /*
  * The examples of document 01 ("Table of checked examples") and a few more with known answers, among them slopes of
- * document 02, each as a trial whose answer and results are held to those values.
+ * document 02 and a fit refused for each figure of a level, each as a trial whose answer and results are held to those values.
  */
 #include "cases.h"
 #include "trial.h"
