@@ -33,8 +33,8 @@
  *   14  a sum out of range in a level of the fit                                                the level
  * A refusal leaves every slice as it was, but for 7, 13 and 14: the scratch prefixes are then zero, as after an acceptance, and
  * lattice and residuals are as they were. The order of the checks is 1, 2, 3, 8, 4, then 5 and 6; points in list order, 5 before 6
- * in a point, elsewhere the whole lattice (6) before positions (5); then the fit's levels one by one, in each all quotients (7),
- * all residuals (13), all sums (14); readers record by record, 9, 10, 11, then 12, then 4.
+ * in a point, elsewhere the whole lattice (6) before positions (5); a fit's levels after its points, one by one, in each all
+ * quotients (7), then all residuals (13), then all sums (14); readers record by record, 9, 10, 11, then 12, then 4.
  */
 #ifndef CURLEWTABLE_H
 #define CURLEWTABLE_H

@@ -1,14 +1,14 @@
--- What a refused fit promises beyond its equation with the rules: its number says which figure of which level left its range, and what is left as it was.
+-- What a refused fit promises beyond its equation with the rules: its number and place say which figure of which level left its range, and its number what
+-- is left as it was.
 use mathlib.Core.Path.{_≡_, refl, sym, ap, _∙_}
-use mathlib.Core.Bool.{_||_, cond}
+use mathlib.Core.Bool.{cond}
 use mathlib.Core.Option.{some}
-use lib.Dec.{eqb}
 use Rattle.rules.specs.Fit.{Shape, Survey, pointCount}
 use Rattle.rules.specs.Answers.{Refusal, number, place, refused, Outcome, outcome}
 use Rattle.rules.specs.Calls.{CellCounts, Lent, cleared, fitCheck, fitEnd, fitCall}
-use Rattle.rules.specs.Laws.Checks.{in-levels}
+use Rattle.rules.specs.Laws.Checks.{ofLevels, in-levels}
 use Rattle.rules.specs.Laws.Passed.{fit-refused}
-use Rattle.rules.specs.Laws.Refused as tells
+use Rattle.rules.specs.Laws.Refused as law
 use Rattle.answers.specs.CellsTold.{told}
 use Rattle.answers.specs.declared.CellsTold.{CellsTold}
 
@@ -16,10 +16,10 @@ module _ (a : Shape) (s : Survey) (lent after : Lent) (r : CellsTold) (rules : o
   refuses : fitCheck a s lent ≡ some f
   refuses = fit-refused a s lent f (sym (ap (λ (o : Outcome CellCounts Lent). o .answered) rules) ∙ is)
 
-  pub which-figure : tells.WhichFigure a s (number f) (place f)
-  which-figure = tells.which-figure a s lent f refuses
+  pub which-figure : law.WhichFigure a s (number f) (place f)
+  which-figure = law.which-figure a s lent f refuses
 
-  -- after 7, 13 and 14 the scratch is zero, and lattice and residuals are as they were; after every other refusal all is
-  pub left : after ≡ cond (eqb (number f) 7 || eqb (number f) 13 || eqb (number f) 14) (cleared a (pointCount s) lent) lent
+  -- after 7, 13 and 14 the scratch is zero, and lattice and residuals are as they were; after every other refusal everything is
+  pub left : after ≡ cond (ofLevels (number f)) (cleared a (pointCount s) lent) lent
   unfolding fitCall fitEnd
   left = ap (λ (o : Outcome CellCounts Lent). o .slices) rules ∙ rw (refuses, in-levels f) refl

@@ -1,6 +1,7 @@
 -- What a refinement promises beyond its equations with the rules: "Refine never gives 7", nor 13 or 14, and the values that an accepted one writes are in
 -- range.
-use mathlib.Core.Path.{_≡_, subst}
+use mathlib.Core.Path.{_≡_, sym, subst, _∙_}
+use mathlib.Core.Bool.{false}
 use mathlib.Core.Option.{none}
 use mathlib.Core.List.{List}
 use Prim.Native.Nat.{ℕ, _*_}
@@ -10,7 +11,7 @@ use Rattle.rules.specs.Grid.{limit, controls, control, store}
 use Rattle.rules.specs.Refinement.{refined}
 use Rattle.rules.specs.Answers.{Refusal, number, accepted, refused, outcome}
 use Rattle.rules.specs.Calls.{CellCounts, refineCheck, refineCall}
-use Rattle.rules.specs.Laws.Checks.{then-rest, AllInRange, NotOfLevels, not-of-levels}
+use Rattle.rules.specs.Laws.Checks.{then-rest, AllInRange, ofLevels, in-levels}
 use Rattle.rules.specs.Laws.Checks.{call-unrefused, call-value, call-after, call-refusal}
 use Rattle.rules.specs.Laws.Passed.{lattice-passed}
 use Rattle.rules.specs.Laws.Refused.{refine-only}
@@ -26,9 +27,9 @@ new-values m n l o e = refined-within m n (control m l) limit (control-within m 
 -- ---- the promises
 
 module _ (m n : ℕ) (lattice before after : List ℤ) (r : CellsTold) (rules : outcome (told r) after ≡ refineCall m n lattice before) where
-  pub never-7-13-14 : (f : Refusal) → told r ≡ refused f → NotOfLevels (number f)
+  pub never-7-13-14 : (f : Refusal) → told r ≡ refused f → ofLevels (number f) ≡ false
   unfolding refineCall
-  never-7-13-14 f e = not-of-levels f (refine-only m n lattice before .only f (call-refusal _ _ _ before (told r) after rules f e))
+  never-7-13-14 f e = sym (in-levels f) ∙ refine-only m n lattice before .only f (call-refusal _ _ _ before (told r) after rules f e)
 
   module _ (c : CellCounts) (e : told r ≡ accepted c) where
     written : after ≡ over (store (2 * m) (2 * n) (refined (control m lattice))) before

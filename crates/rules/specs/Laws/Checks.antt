@@ -33,10 +33,11 @@ unfolding require
 require-met true r t = refl
 require-met false r t = absurd t
 
-pub require-failed : (b : Bool) (r s : Refusal) → require b r ≡ some s → b ≡ false
+-- a refusal is the one that the check has, and its test has failed
+pub require-refusal : (b : Bool) (r s : Refusal) → require b r ≡ some s → (b ≡ false) × (r ≡ s)
 unfolding require
-require-failed true r s e = let z : true ≡ false = cc in z
-require-failed false r s e = refl
+require-refusal true r s e = let z : true ≡ false = cc in (z, cc)
+require-refusal false r s e = (refl, cc)
 
 pub within-bounds : (low high v : ℕ) → T (within low high v) → (low ≤ v) × (v ≤ high)
 unfolding within
@@ -70,10 +71,10 @@ unfolding _then_
 then-some c d e = rw e refl
 
 -- a refusal is of the first, or the first refuses nothing and it is of the second
-pub then-found : (c d : Check) (r : Refusal) → (c then d) ≡ some r → (c ≡ some r) ⊎ ((c ≡ none) × (d ≡ some r))
+pub then-refusal : (c d : Check) (r : Refusal) → (c then d) ≡ some r → (c ≡ some r) ⊎ ((c ≡ none) × (d ≡ some r))
 unfolding _then_
-then-found none d r e = inr (refl, e)
-then-found (some s) d r e = inl e
+then-refusal none d r e = inr (refl, e)
+then-refusal (some s) d r e = inl e
 
 pub then-assoc : (c d e : Check) → ((c then d) then e) ≡ (c then d then e)
 unfolding _then_
@@ -122,14 +123,14 @@ pub record FirstRefused (n : ℕ) (f : ℕ → Check) (r : Refusal) : Type 0 whe
   pub none-before : firstOf at f ≡ none
   pub refuses : f at ≡ some r
 
-pub firstOf-found : (n : ℕ) (f : ℕ → Check) (r : Refusal) → firstOf n f ≡ some r → FirstRefused n f r
+pub firstOf-refusal : (n : ℕ) (f : ℕ → Check) (r : Refusal) → firstOf n f ≡ some r → FirstRefused n f r
 unfolding firstOf
-firstOf-found zero f r e = let z : _≡_ {A = ℕ} 0 1 = cc in absurd (omega arith)
-firstOf-found (suc n) f r e =
+firstOf-refusal zero f r e = let z : _≡_ {A = ℕ} 0 1 = cc in absurd (omega arith)
+firstOf-refusal (suc n) f r e =
     ⊎-elim
-    (λ first. let q = firstOf-found n f r first in record { at = q .at; below = omega (arith, q .below); none-before = q .none-before; refuses = q .refuses })
+    (λ first. let q = firstOf-refusal n f r first in record { at = q .at; below = omega (arith, q .below); none-before = q .none-before; refuses = q .refuses })
     (λ last. record { at = n; below = omega arith; none-before = last .0; refuses = last .1 })
-    (then-found (firstOf n f) (f n) r e)
+    (then-refusal (firstOf n f) (f n) r e)
 
 -- ---- what every refusal of a check is
 
@@ -158,6 +159,14 @@ module _ {P : Refusal → Type 0} where
   unfolding firstOf
   only-firstOf zero f h = only-none
   only-firstOf (suc n) f h = only-then (only-firstOf n f h) (h n)
+
+-- where all refuse alike, one of n that refuses decides
+pub firstOf-only : {n : ℕ} (i : ℕ) (f : ℕ → Check) (r : Refusal) → ((q : ℕ) → Only (λ t. t ≡ r) (f q)) → i < n → f i ≡ some r → firstOf n f ≡ some r
+firstOf-only {n} i f r alike l e = go (firstOf n f) refl
+  where
+    go : (c : Check) → firstOf n f ≡ c → firstOf n f ≡ some r
+    go none is = is ∙ sym (firstOf-none n f is i l) ∙ e
+    go (some t) is = is ∙ ap some (only-firstOf n f alike .only t is)
 
 -- ---- ranges
 
@@ -237,18 +246,24 @@ pub record FirstOut (i : ℕ) (values : List ℤ) : Type 0 where
 pub firstOut-found : (n i : ℕ) (values : List ℤ) → SomeOut n values → FirstOut i values → (f : ℕ → Refusal) → rangeCheck n values f ≡ some (f i)
 firstOut-found n i values s p = noneOut-at n i values (p .none-before) (someOut-past i n values (p .none-before) s) (p .out)
 
--- a check of n values that refuses one has found the first that is out of range
-pub rangeCheck-found : (n : ℕ) (values : List ℤ) (f : ℕ → Refusal) (r : Refusal) → rangeCheck n values f ≡ some r → (i : ℕ) × (i < n) × FirstOut i values
+-- a check of n values that refuses one refuses the first that is out of range
+pub rangeCheck-refusal : (n : ℕ) (values : List ℤ) (f : ℕ → Refusal) (r : Refusal) → rangeCheck n values f ≡ some r
+    → (i : ℕ) × (i < n) × FirstOut i values × (f i ≡ r)
 unfolding rangeCheck
-rangeCheck-found n values f r e =
-    let q = firstOf-found n (λ i. require (inRange (getD values i (pos 0))) (f i)) r e in
+rangeCheck-refusal n values f r e =
+    let q = firstOf-refusal n (λ i. require (inRange (getD values i (pos 0))) (f i)) r e in
     let before : NoneOut (q .at) values = λ g. size-rangeCheck (q .at) values g (rangeCheck-size (q .at) values f (q .none-before)) in
-    (q .at, q .below, record { none-before = before; out = require-failed _ (f (q .at)) r (q .refuses) })
+    let here = require-refusal _ (f (q .at)) r (q .refuses) in
+    (q .at, q .below, record { none-before = before; out = here .0 }, here .1)
 
 -- ---- answers
 
--- the fit had begun its levels exactly if the number is 7, 13 or 14
-pub in-levels : (r : Refusal) → inLevels r ≡ (eqb (number r) 7 || eqb (number r) 13 || eqb (number r) 14)
+-- the numbers that a level of a fit gives
+abbrev pub ofLevels : ℕ → Bool
+ofLevels n = eqb n 7 || eqb n 13 || eqb n 14
+
+-- the fit had begun its levels exactly if the number is one of these
+pub in-levels : (r : Refusal) → inLevels r ≡ ofLevels (number r)
 in-levels cells = refl
 in-levels levels = refl
 in-levels unit = refl
@@ -264,15 +279,6 @@ in-levels (incomplete b) = refl
 in-levels (mark b) = refl
 in-levels (field b) = refl
 in-levels (trailing b) = refl
-
--- a number that no level of a fit gives
-abbrev pub NotOfLevels : ℕ → Type 0
-NotOfLevels n = (n ≡ 7 → ⊥) × (n ≡ 13 → ⊥) × (n ≡ 14 → ⊥)
-
-pub not-of-levels : (r : Refusal) → inLevels r ≡ false → NotOfLevels (number r)
-not-of-levels r before =
-    let never : inLevels r ≡ true → ⊥ = λ e. subst T (sym e ∙ before) tt in
-    (λ n. never (in-levels r ∙ rw n refl), λ n. never (in-levels r ∙ rw n refl), λ n. never (in-levels r ∙ rw n refl))
 
 -- no refusal has the number of an acceptance
 pub number-some : (r : Refusal) → number r ≡ 0 → ⊥

@@ -6,13 +6,15 @@ use mathlib.Core.Option.{Option, none, some}
 use mathlib.Core.List.{List}
 use Prim.Native.Nat.{ℕ, suc, _+_, _/_, _%_, _≤_, _<_}
 use native.Mathlib.Omega.{arith}
+use lib.Dec.{T}
 use lib.IntN.{ℤ}
 use Rattle.rules.specs.Grid.{controls}
 use Rattle.rules.specs.Fit.{Shape, columns, rows, Survey, pointCount, valued, levelValue, residuals, running, present, quotientCheck, residualCheck, sumCheck, levelCheck, levelsCheck}
-use Rattle.rules.specs.Answers.{Refusal, quotient, residual, sum, number, place, inLevels, Check, _then_}
+use Rattle.rules.specs.Answers.{Refusal, quotient, residual, sum, number, place, inLevels, Check, require, _then_}
 use Rattle.rules.specs.Calls.{Lent, surveyCheck, cellsCheck, hCheck, listsCheck, roomCheck, lentCheck, pointCheck, pointsCheck, fitCheck, latticeCheck, refineCheck}
-use Rattle.rules.specs.Laws.Checks.{Only, only-require, only-then, only-firstOf, only-rangeCheck, require-failed, then-found, then-assoc, firstOf-none, firstOf-found}
-use Rattle.rules.specs.Laws.Checks.{AllInRange, FirstOut, rangeCheck-size, rangeCheck-found, not-of-levels}
+use Rattle.rules.specs.Laws.Checks.{then-none, then-some, then-refusal, then-assoc, require-refusal, firstOf-none, firstOf-all, firstOf-at, firstOf-only, firstOf-refusal}
+use Rattle.rules.specs.Laws.Checks.{Only, only-require, only-then, only-firstOf, only-rangeCheck, ofLevels, in-levels}
+use Rattle.rules.specs.Laws.Checks.{AllInRange, FirstOut, rangeCheck-size, size-rangeCheck, rangeCheck-refusal, noneOut-at}
 
 -- ---- before the levels, or in them
 
@@ -37,24 +39,10 @@ levels-only a s =
     only-firstOf (a .h + 1) _ (λ k.
     only-then (only-firstOf _ _ (λ q. only-require _ _ refl)) (only-then (only-rangeCheck _ _ _ (λ i. refl)) (only-rangeCheck _ _ _ (λ i. refl))))
 
--- "Refine never gives 7"
+-- "Refine never gives 7", nor 13 or 14
 pub refine-only : (m n : ℕ) (lattice output : List ℤ) → Only (λ r. inLevels r ≡ false) (refineCheck m n lattice output)
 unfolding refineCheck cellsCheck latticeCheck
 refine-only m n lattice output = only-then (only-require _ _ refl) (only-then (only-require _ _ refl) (only-rangeCheck _ _ _ (λ i. refl)))
-
--- each of a level's three checks refuses by its own cause
-module _ (a : Shape) (s : Survey) (k : ℕ) where
-  quotients-only : Only (λ r. r ≡ quotient k) (quotientCheck a s k)
-  unfolding quotientCheck
-  quotients-only = only-firstOf _ _ (λ q. only-require _ (quotient k) refl)
-
-  residuals-only : Only (λ r. r ≡ residual k) (residualCheck a s k)
-  unfolding residualCheck
-  residuals-only = only-rangeCheck _ _ _ (λ i. refl)
-
-  sums-only : Only (λ r. r ≡ sum k) (sumCheck a s k)
-  unfolding sumCheck
-  sums-only = only-rangeCheck _ _ _ (λ i. refl)
 
 -- ---- which figure left its range
 
@@ -66,9 +54,9 @@ pub record Reached (a : Shape) (s : Survey) (k : ℕ) : Type 0 where
 -- a quotient of level k is no number or rounds out of range
 pub record QuotientOut (a : Shape) (s : Survey) (k : ℕ) : Type 0 where
   pub reached : Reached a s k
-  pub control : ℕ
-  pub stored : control < controls (columns a k) (rows a k)
-  pub no-value : levelValue a k (valued s (residuals a s k)) (control % (columns a k + 3)) (control / (columns a k + 3)) ≡ none
+  pub at : ℕ
+  pub stored : at < controls (columns a k) (rows a k)
+  pub no-value : levelValue a k (valued s (residuals a s k)) (at % (columns a k + 3)) (at / (columns a k + 3)) ≡ none
 
 -- no quotient of level k is refused, and a residual that the level leaves is out of range
 pub record ResidualOut (a : Shape) (s : Survey) (k : ℕ) : Type 0 where
@@ -83,9 +71,9 @@ pub record SumOut (a : Shape) (s : Survey) (k : ℕ) : Type 0 where
   pub reached : Reached a s k
   pub quotients : quotientCheck a s k ≡ none
   pub residuals-in : AllInRange (pointCount s) (residuals a s (suc k))
-  pub control : ℕ
-  pub stored : control < controls (columns a k) (rows a k)
-  pub out : FirstOut control (running a s k)
+  pub at : ℕ
+  pub stored : at < controls (columns a k) (rows a k)
+  pub out : FirstOut at (running a s k)
 
 -- what a fit's number and place tell a surveyor
 pub record WhichFigure (a : Shape) (s : Survey) (number level : ℕ) : Type 0 where
@@ -98,8 +86,12 @@ unfolding present
 absent none e = refl
 absent (some z) e = let n : some z ≡ none = cc in n
 
+absent-refused : (v : Option ℤ) (r : Refusal) → v ≡ none → require (present v) r ≡ some r
+unfolding require present
+absent-refused v r e = rw e refl
+
 module _ (a : Shape) (s : Survey) where
-  -- a refusal by a number and a place
+  -- what a refusal tells by its number and its place
   abbrev Tells : Refusal → Type 0
   Tells r = WhichFigure a s (number r) (place r)
 
@@ -107,49 +99,69 @@ module _ (a : Shape) (s : Survey) where
     quotient-tells : quotientCheck a s k ≡ some r → Tells r
     unfolding quotientCheck
     quotient-tells e =
-        let q = firstOf-found (controls (columns a k) (rows a k)) _ r e in
-        let out : QuotientOut a s k = record { reached = reached; control = q .at; stored = q .below; no-value = absent _ (require-failed _ (quotient k) r (q .refuses)) } in
-        subst Tells (sym (quotients-only a s k .only r e)) (record { by-7 = λ n. out; by-13 = λ n. absurd (omega arith); by-14 = λ n. absurd (omega arith) })
+        let q = firstOf-refusal (controls (columns a k) (rows a k)) _ r e in
+        let here = require-refusal _ (quotient k) r (q .refuses) in
+        let out : QuotientOut a s k = record { reached = reached; at = q .at; stored = q .below; no-value = absent _ (here .0) } in
+        subst Tells (here .1) (record { by-7 = λ n. out; by-13 = λ n. absurd (omega arith); by-14 = λ n. absurd (omega arith) })
 
     residual-tells : quotientCheck a s k ≡ none → residualCheck a s k ≡ some r → Tells r
     unfolding residualCheck
     residual-tells quotients e =
-        let q = rangeCheck-found (pointCount s) (residuals a s (suc k)) (λ i. residual k) r e in
+        let q = rangeCheck-refusal (pointCount s) (residuals a s (suc k)) (λ i. residual k) r e in
         let out : ResidualOut a s k = record { reached = reached; quotients = quotients; point = q .0; listed = q .1; out = q .2 } in
-        subst Tells (sym (residuals-only a s k .only r e)) (record { by-7 = λ n. absurd (omega arith); by-13 = λ n. out; by-14 = λ n. absurd (omega arith) })
+        subst Tells (q .3) (record { by-7 = λ n. absurd (omega arith); by-13 = λ n. out; by-14 = λ n. absurd (omega arith) })
 
     sum-tells : quotientCheck a s k ≡ none → residualCheck a s k ≡ none → sumCheck a s k ≡ some r → Tells r
     unfolding residualCheck sumCheck
     sum-tells quotients residuals-fine e =
-        let q = rangeCheck-found (controls (columns a k) (rows a k)) (running a s k) (λ q. sum k) r e in
-        let out : SumOut a s k = record {
-          reached = reached;
-          quotients = quotients;
-          residuals-in = rangeCheck-size (pointCount s) (residuals a s (suc k)) (λ i. residual k) residuals-fine;
-          control = q .0;
-          stored = q .1;
-          out = q .2;
-        } in
-        subst Tells (sym (sums-only a s k .only r e)) (record { by-7 = λ n. absurd (omega arith); by-13 = λ n. absurd (omega arith); by-14 = λ n. out })
+        let q = rangeCheck-refusal (controls (columns a k) (rows a k)) (running a s k) (λ q. sum k) r e in
+        let fine = rangeCheck-size (pointCount s) (residuals a s (suc k)) (λ i. residual k) residuals-fine in
+        let out : SumOut a s k = record { reached = reached; quotients = quotients; residuals-in = fine; at = q .0; stored = q .1; out = q .2 } in
+        subst Tells (q .3) (record { by-7 = λ n. absurd (omega arith); by-13 = λ n. absurd (omega arith); by-14 = λ n. out })
 
   levels-tell : (r : Refusal) → levelsCheck a s ≡ some r → Tells r
   unfolding levelsCheck levelCheck
   levels-tell r e =
-      let l = firstOf-found (a .h + 1) (levelCheck a s) r e in
+      let l = firstOf-refusal (a .h + 1) (levelCheck a s) r e in
       let k = l .at in
       let reached : Reached a s k = record { of-fit = omega (arith, l .below); before = firstOf-none k (levelCheck a s) (l .none-before) } in
       ⊎-elim (quotient-tells k reached r)
       (λ rest.
       ⊎-elim (residual-tells k reached r (rest .0)) (λ last. sum-tells k reached r (rest .0) (last .0) (last .1))
-      (then-found (residualCheck a s k) (sumCheck a s k) r (rest .1)))
-      (then-found (quotientCheck a s k) _ r (l .refuses))
+      (then-refusal (residualCheck a s k) (sumCheck a s k) r (rest .1)))
+      (then-refusal (quotientCheck a s k) _ r (l .refuses))
 
   early-tells : (r : Refusal) → inLevels r ≡ false → Tells r
-  early-tells r before =
-      let never = not-of-levels r before in
-      record { by-7 = λ n. absurd (never .0 n); by-13 = λ n. absurd (never .1 n); by-14 = λ n. absurd (never .2 n) }
+  early-tells r before = record { by-7 = λ e. absurd (never 7 refl e); by-13 = λ e. absurd (never 13 refl e); by-14 = λ e. absurd (never 14 refl e) }
+    where
+      never : (n : ℕ) → ofLevels n ≡ true → number r ≡ n → ⊥
+      never n t e = subst T (sym t ∙ ap ofLevels (sym e) ∙ sym (in-levels r) ∙ before) tt
 
   pub which-figure : (l : Lent) (r : Refusal) → fitCheck a s l ≡ some r → WhichFigure a s (number r) (place r)
   which-figure l r e =
       ⊎-elim (λ first. early-tells r (early-only a s l .only r first)) (λ rest. levels-tell r (rest .1))
-      (then-found (earlyCheck a s l) (levelsCheck a s) r (sym (grouped a s l) ∙ e))
+      (then-refusal (earlyCheck a s l) (levelsCheck a s) r (sym (grouped a s l) ∙ e))
+
+  -- and a figure out of range, where all that is judged before it is in range, is the one that is told
+  module _ (k : ℕ) where
+    level-refuses : {r : Refusal} → Reached a s k → levelCheck a s k ≡ some r → levelsCheck a s ≡ some r
+    unfolding levelsCheck
+    level-refuses {r} p e = firstOf-at (a .h + 1) k (levelCheck a s) r (firstOf-all k (levelCheck a s) (p .before)) (omega (arith, p .of-fit)) e
+
+    pub quotient-told : QuotientOut a s k → levelsCheck a s ≡ some (quotient k)
+    unfolding levelCheck quotientCheck
+    quotient-told o =
+        level-refuses (o .reached) (then-some _ _ (firstOf-only (o .at) _ _ (λ q. only-require _ _ refl) (o .stored) (absent-refused _ (quotient k) (o .no-value))))
+
+    pub residual-told : ResidualOut a s k → levelsCheck a s ≡ some (residual k)
+    unfolding levelCheck residualCheck
+    residual-told o =
+        let out = noneOut-at (pointCount s) (o .point) (residuals a s (suc k)) (o .out .none-before) (o .listed) (o .out .out) (λ i. residual k) in
+        level-refuses (o .reached) (then-none _ _ (o .quotients) ∙ then-some _ _ out)
+
+    pub sum-told : SumOut a s k → levelsCheck a s ≡ some (sum k)
+    unfolding levelCheck residualCheck sumCheck
+    sum-told o =
+        let fine = size-rangeCheck (pointCount s) (residuals a s (suc k)) (λ i. residual k) (o .residuals-in) in
+        let out = noneOut-at (controls (columns a k) (rows a k)) (o .at) (running a s k) (o .out .none-before) (o .stored) (o .out .out) (λ q. sum k) in
+        level-refuses (o .reached) (then-none _ _ (o .quotients) ∙ then-none _ _ fine ∙ out)

@@ -1,5 +1,5 @@
--- Fits that a level refuses, computed on the definitions: one for a residual, one for a sum, and one that has a residual and a sum out of range in one level,
--- which is refused for the residual. One for a quotient is among the lone points.
+-- Fits that a level refuses, computed on the definitions: one for a quotient, one for a residual, one for a sum, and one that has a residual and a sum out of
+-- range in one level, which is refused for the residual.
 use mathlib.Core.Path.{_≡_, refl, _∙_}
 use mathlib.Core.Option.{none, some}
 use mathlib.Core.List.{List, [], _∷_}
@@ -8,15 +8,30 @@ use lib.IntN.{ℤ, pos, negℤ}
 use lib.Ieee.{lt, ofBits, add, mul, div, ofInt}
 use Rattle.algebra.specs.Table.{tabulate}
 use Rattle.rules.specs.Rounding.{floor, near}
-use Rattle.rules.specs.Grid.{inRange, cellsAt, unitAt, controls, control, store}
+use Rattle.rules.specs.Grid.{inRange, within, inside, cellsAt, unitAt, controls, control, store}
 use Rattle.rules.specs.Surface.{square, cube, numerator, denominator, cell, offset, weighted, along, height}
 use Rattle.rules.specs.Level.{basis, weight, addSquares, squares, noSums, grown, uses, touched, gathered, coefficient, signed, nearFloat, kept, settled, fittedAt}
 use Rattle.rules.specs.Refinement.{masked, finer, finer2, refined}
 use Rattle.rules.specs.Fit.{Shape, shape, columns, rows, unitOf, Survey, survey, pointCount, pointsOf, valued, levelValue, orZero, levelOf, levelHeight, lowered, raised, residuals, level, running}
 use Rattle.rules.specs.Fit.{present, quotientCheck, residualCheck, sumCheck, levelCheck, levelsCheck}
-use Rattle.rules.specs.Answers.{Check, require, _then_, firstOf, rangeCheck, quotient, residual, sum}
+use Rattle.rules.specs.Answers.{Refusal, Check, require, _then_, firstOf, rangeCheck, quotient, residual, sum, refused, outcome}
+use Rattle.rules.specs.Calls.{Lent, cellsCheck, hCheck, listsCheck, surveyCheck, pointCheck, pointsCheck, lentCheck, cleared, fitEnd, fitCall}
 use Rattle.rules.specs.Laws.Checks.{then-none}
 use Rattle.rules.specs.Laws.Fit.{first-sums}
+use Rattle.rules.specs.Laws.Refused.{earlyCheck, grouped, levels-only}
+use Rattle.computed_fits.specs.Accepted.{one, lone, lone-point}
+
+-- a call whose survey passes every check before the levels, and is refused in them
+refused-call : (a : Shape) (s : Survey) (lent : Lent) (r : Refusal) → earlyCheck a s lent ≡ none → levelsCheck a s ≡ some r
+    → fitCall a s lent ≡ outcome (refused r) (cleared a (pointCount s) lent)
+unfolding fitCall fitEnd _then_
+refused-call a s lent r early e = rw (grouped a s lent, early, e, levels-only a s .only r e) refl
+
+-- ---- a quotient: "2,300,000,000 refused 7 level 0"
+
+pub quotient-refused : (lent : Lent) → lentCheck one 1 lent ≡ none → fitCall one (lone 2_300_000_000) lent ≡ outcome (refused (quotient 0)) (cleared one 1 lent)
+unfolding surveyCheck cellsCheck hCheck listsCheck pointsCheck pointCheck within inside inRange columns rows cellsAt firstOf require _then_
+quotient-refused lent room = refused-call one (lone 2_300_000_000) lent (quotient 0) (rw room refl) (lone-point .too-high)
 
 -- ---- a residual
 
@@ -24,9 +39,13 @@ use Rattle.rules.specs.Laws.Fit.{first-sums}
 abbrev pub apart : Survey
 apart = survey (8 ∷ 8 ∷ 8 ∷ []) (8 ∷ 8 ∷ 8 ∷ []) (pos 4_000_000_000 ∷ negℤ (pos 4_000_000_000) ∷ negℤ (pos 4_000_000_000) ∷ [])
 
-pub residual-refused : levelsCheck (shape 1 1 0) apart ≡ some (residual 0)
+apart-levels : levelsCheck one apart ≡ some (residual 0)
 unfolding levelsCheck levelCheck quotientCheck residualCheck rangeCheck lowered levelHeight height along weighted control level levelOf levelValue fittedAt gathered touched uses weight basis squares addSquares grown noSums coefficient settled kept nearFloat signed near floor orZero residuals store controls columns rows unitOf cellsAt unitAt tabulate pointsOf cell offset numerator denominator square cube inRange present require _then_ firstOf lt ofBits add mul div ofInt
-residual-refused = refl
+apart-levels = refl
+
+pub residual-refused : (lent : Lent) → lentCheck one 3 lent ≡ none → fitCall one apart lent ≡ outcome (refused (residual 0)) (cleared one 3 lent)
+unfolding surveyCheck cellsCheck hCheck listsCheck pointsCheck pointCheck within inside inRange columns rows cellsAt firstOf require _then_
+residual-refused lent room = refused-call one apart lent (residual 0) (rw room refl) apart-levels
 
 -- ---- a sum, and a residual before it
 
@@ -34,7 +53,7 @@ residual-refused = refl
 abbrev pub two : Shape
 two = shape 1 1 1
 
--- the quotients of level k, fitted to known residuals
+-- the check of the quotients of level k, fitted to known residuals
 quotientsOf : ℕ → Survey → Check
 quotientsOf k s =
     let w = columns two k + 3 in
@@ -96,10 +115,12 @@ ended : Ended steep steep-left none × Ended torn torn-left (some (residual 1))
 unfolding masked finer finer2 refined raised lowered levelHeight height along weighted control levelOf levelValue fittedAt gathered touched uses weight basis squares addSquares grown noSums coefficient settled kept nearFloat signed near floor orZero store controls columns rows unitOf cellsAt unitAt tabulate pointsOf cell offset numerator denominator square cube inRange rangeCheck require _then_ firstOf lt ofBits add mul div ofInt
 ended = (record { residuals-1 = refl; sums-1 = refl }, record { residuals-1 = refl; sums-1 = refl })
 
-pub sum-refused : levelsCheck two steep ≡ some (sum 1)
-unfolding _then_
-sum-refused = decided steep steep-left none (begun .0) (ended .0)
+pub sum-refused : (lent : Lent) → lentCheck two 2 lent ≡ none → fitCall two steep lent ≡ outcome (refused (sum 1)) (cleared two 2 lent)
+unfolding surveyCheck cellsCheck hCheck listsCheck pointsCheck pointCheck within inside inRange columns rows cellsAt firstOf require _then_
+sum-refused lent room = refused-call two steep lent (sum 1) (rw room refl) (decided steep steep-left none (begun .0) (ended .0))
 
-pub residual-before-sum : (levelsCheck two torn ≡ some (residual 1)) × (sumCheck two torn 1 ≡ some (sum 1))
-unfolding _then_
-residual-before-sum = (decided torn torn-left _ (begun .1) (ended .1), sum-out torn torn-left _ (begun .1) (ended .1))
+pub residual-before-sum : (lent : Lent) → lentCheck two 4 lent ≡ none
+    → (fitCall two torn lent ≡ outcome (refused (residual 1)) (cleared two 4 lent)) × (sumCheck two torn 1 ≡ some (sum 1))
+unfolding surveyCheck cellsCheck hCheck listsCheck pointsCheck pointCheck within inside inRange columns rows cellsAt firstOf require _then_
+residual-before-sum lent room =
+    (refused-call two torn lent (residual 1) (rw room refl) (decided torn torn-left _ (begun .1) (ended .1)), sum-out torn torn-left _ (begun .1) (ended .1))

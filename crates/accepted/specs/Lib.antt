@@ -1,2 +1,0 @@
-pub mod Fits
-pub mod Refusals
