@@ -242,9 +242,13 @@ pub record FirstOut (i : ℕ) (values : List ℤ) : Type 0 where
   pub none-before : NoneOut i values
   pub out : inRange (getD values i (pos 0)) ≡ false
 
--- so it is the one that a check of n values refuses, if it refuses any
+-- so it is the one that a check of n values refuses, if it is one of them
+pub firstOut-at : (n i : ℕ) (values : List ℤ) → i < n → FirstOut i values → (f : ℕ → Refusal) → rangeCheck n values f ≡ some (f i)
+firstOut-at n i values l p = noneOut-at n i values (p .none-before) l (p .out)
+
+-- or if any of them is refused
 pub firstOut-found : (n i : ℕ) (values : List ℤ) → SomeOut n values → FirstOut i values → (f : ℕ → Refusal) → rangeCheck n values f ≡ some (f i)
-firstOut-found n i values s p = noneOut-at n i values (p .none-before) (someOut-past i n values (p .none-before) s) (p .out)
+firstOut-found n i values s p = firstOut-at n i values (someOut-past i n values (p .none-before) s) p
 
 -- a check of n values that refuses one refuses the first that is out of range
 pub rangeCheck-refusal : (n : ℕ) (values : List ℤ) (f : ℕ → Refusal) (r : Refusal) → rangeCheck n values f ≡ some r

@@ -16,7 +16,7 @@ use Rattle.algebra.specs.Table.{over, getD-over}
 use Rattle.rules.specs.Rounding.{near}
 use Rattle.rules.specs.Grid.{Lattice, cellsAt, unitAt, inside, controls, control}
 use Rattle.rules.specs.Surface.{denominator, surface, height}
-use Rattle.rules.specs.Fit.{Shape, columns, rows, unitOf, Survey, level, raised, running, singleLattice, sumCheck, levelCheck, levelsCheck}
+use Rattle.rules.specs.Fit.{Shape, columns, rows, unitOf, Survey, level, raised, running, singleLattice, quotientCheck, residualCheck, sumCheck, levelCheck, levelsCheck}
 use Rattle.rules.specs.Fit.{theD, levelSurface, theT, theV}
 use Rattle.rules.specs.Answers.{require, answer}
 use Rattle.rules.specs.Calls.{Lent, unitCheck, latticeCheck, heightCheck, heightAnswer, fitCheck, finest, fitCall}
@@ -104,15 +104,20 @@ record Shown (a : Shape) (s : Survey) : Type 0 where
   counts : Sides 512 (finest a .m) (finest a .n)
   sums : AllInRange (controls (finest a .m) (finest a .n)) (singleLattice a s)
 
+-- wherever in a level the sums are judged
+sums-passed : (a : Shape) (s : Survey) (k : ℕ) → levelCheck a s k ≡ none → sumCheck a s k ≡ none
+unfolding levelCheck
+sums-passed a s k e = search (then-first, then-rest, quotientCheck a s k, residualCheck a s k)
+
 shown : (a : Shape) (s : Survey) (lent : Lent) → fitCheck a s lent ≡ none → Shown a s
-unfolding fitCheck levelsCheck levelCheck sumCheck columns rows singleLattice
+unfolding fitCheck levelsCheck sumCheck columns rows singleLattice
 shown a s lent e =
     let surveyed = survey-passed a s (then-first _ _ e) in
     let past-points = then-rest _ _ (then-rest _ _ (then-rest _ _ e)) in
     let last = firstOf-none (a .h + 1) _ past-points (a .h) (omega arith) in
     record {
       counts = level-sides (a .m0) (a .n0) (a .h) (surveyed .sides) (surveyed .levels-most);
-      sums = rangeCheck-size _ _ _ (then-rest _ _ (then-rest _ _ last));
+      sums = rangeCheck-size _ _ _ (sums-passed a s (a .h) last);
     }
 
 -- the positions of its grid

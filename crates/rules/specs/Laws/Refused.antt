@@ -14,7 +14,7 @@ use Rattle.rules.specs.Answers.{Refusal, quotient, residual, sum, number
 use Rattle.rules.specs.Calls.{Lent, surveyCheck, cellsCheck, hCheck, listsCheck, roomCheck, lentCheck, pointCheck, pointsCheck, fitCheck, latticeCheck, refineCheck}
 use Rattle.rules.specs.Laws.Checks.{then-none, then-some, then-refusal, then-assoc, require-refusal, firstOf-none, firstOf-all, firstOf-at, firstOf-only, firstOf-refusal}
 use Rattle.rules.specs.Laws.Checks.{Only, only-require, only-then, only-firstOf, only-rangeCheck, ofLevels, in-levels}
-use Rattle.rules.specs.Laws.Checks.{AllInRange, FirstOut, rangeCheck-size, size-rangeCheck, rangeCheck-refusal, noneOut-at}
+use Rattle.rules.specs.Laws.Checks.{AllInRange, FirstOut, rangeCheck-size, size-rangeCheck, rangeCheck-refusal, firstOut-at}
 
 -- ---- before the levels, or in them
 
@@ -23,16 +23,19 @@ module _ (a : Shape) (s : Survey) (l : Lent) where
   abbrev pub earlyCheck : Check
   earlyCheck = surveyCheck a s then lentCheck a (pointCount s) l then pointsCheck 16 (columns a (a .h)) (rows a (a .h)) s
 
+  -- a fit's check is these, and then the levels'
   pub grouped : fitCheck a s l ≡ (earlyCheck then levelsCheck a s)
   unfolding fitCheck
   grouped = sym (then-assoc _ _ _ ∙ ap (λ c. surveyCheck a s then c) (then-assoc _ _ _))
 
+  -- none of them refuses as a level does
   pub early-only : Only (λ r. inLevels r ≡ false) earlyCheck
   unfolding surveyCheck cellsCheck hCheck listsCheck lentCheck roomCheck pointsCheck pointCheck
   early-only =
       only-then (only-then (only-require _ _ refl) (only-then (only-require _ _ refl) (only-require _ _ refl)))
       (only-then (only-require _ _ refl) (only-firstOf (pointCount s) _ (λ i. only-then (only-require _ _ refl) (only-require _ _ refl))))
 
+-- the levels refuse in no other way
 pub levels-only : (a : Shape) (s : Survey) → Only (λ r. inLevels r ≡ true) (levelsCheck a s)
 unfolding levelsCheck levelCheck quotientCheck residualCheck sumCheck
 levels-only a s =
@@ -156,12 +159,11 @@ module _ (a : Shape) (s : Survey) where
     pub residual-told : ResidualOut a s k → levelsCheck a s ≡ some (residual k)
     unfolding levelCheck residualCheck
     residual-told o =
-        let out = noneOut-at (pointCount s) (o .point) (residuals a s (suc k)) (o .out .none-before) (o .listed) (o .out .out) (λ i. residual k) in
-        level-refuses (o .reached) (then-none _ _ (o .quotients) ∙ then-some _ _ out)
+        level-refuses (o .reached) (then-none _ _ (o .quotients) ∙ then-some _ _ (firstOut-at (pointCount s) (o .point) (residuals a s (suc k)) (o .listed) (o .out) _))
 
     pub sum-told : SumOut a s k → levelsCheck a s ≡ some (sum k)
     unfolding levelCheck residualCheck sumCheck
     sum-told o =
         let fine = size-rangeCheck (pointCount s) (residuals a s (suc k)) (λ i. residual k) (o .residuals-in) in
-        let out = noneOut-at (controls (columns a k) (rows a k)) (o .at) (running a s k) (o .out .none-before) (o .stored) (o .out .out) (λ q. sum k) in
+        let out = firstOut-at (controls (columns a k) (rows a k)) (o .at) (running a s k) (o .stored) (o .out) (λ q. sum k) in
         level-refuses (o .reached) (then-none _ _ (o .quotients) ∙ then-none _ _ fine ∙ out)
