@@ -74,8 +74,8 @@ times {x} {z} {y} {v} {B} {C} h k =
     record { is = ap₂ _*ℤ_ (h .is) (k .is); size = subst (λ n. n ≤ B * C) (sym (natAbs-product z v)) (mul-le-mul (h .size) (k .size)) }
 
 -- a quotient and a shift to the right are no larger than what they divide
-pub divided : {x z : ℤ} {B : ℕ} (d : ℕ) → Held x z B → Held (quotZ x (pos d)) (quotZ z (pos d)) B
-divided {x} {z} d h = record { is = ap (λ v. quotZ v (pos d)) (h .is); size = le-trans (smaller z) (h .size) }
+pub divided : {x z y : ℤ} {B d C : ℕ} → Held x z B → Held y (pos d) C → Held (quotZ x y) (quotZ z (pos d)) B
+divided {x} {z} {d = d} h k = record { is = ap₂ quotZ (h .is) (k .is); size = le-trans (smaller z) (h .size) }
   where
     smaller : (z : ℤ) → natAbs (quotZ z (pos d)) ≤ natAbs z
     smaller (pos a) = div-le-self a d

@@ -8,9 +8,9 @@ use Rattle.machine.specs.Held.{Number, number, itself, cast-low, read, plus, sh
 use Rattle.rules.specs.Rounding.{floor}
 use Rattle.rules.specs.Laws.Rounding.{shift-floor}
 
-module _ (v : ℤ) (k j : ℕ) (size : natAbs v ≤ 4_000_000_000_000_000_000) (few : k ≤ 3) (low : j ≤ 27) where
+module _ (v : ℤ) (k j : ℕ) (size : natAbs v ≤ 3_300_000_000_000_000_000) (few : k ≤ 3) (low : j ≤ 27) where
   abbrev pub sum : Number
-  sum = number (plus (read tt (itself v 4_000_000_000_000_000_000 size)) (cast-low (k * 2 ^ j) (3 * 2 ^ 27) (mul-le-mul few (pow-mono low)) tt))
+  sum = number (plus (read tt (itself v 3_300_000_000_000_000_000 size)) (cast-low (k * 2 ^ j) (3 * 2 ^ 27) (mul-le-mul few (pow-mono low)) tt))
 
   abbrev pub over : ℕ → Number
   over q = number (read tt (shifted (2 ^ q) (read tt (sum .held))))

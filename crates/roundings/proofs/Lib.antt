@@ -1,2 +1,4 @@
 pub mod Halved
 pub mod Powers
+pub mod Quotient
+pub mod Over

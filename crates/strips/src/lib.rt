@@ -147,7 +147,7 @@ fn node(ring: &[i64; 256], cell: usize, b: Basis, e: u32, i: usize) -> i64
     let p1 = ring_sum(ring, cell + 1, i);
     let p2 = ring_sum(ring, cell + 2, i);
     let p3 = ring_sum(ring, cell + 3, i);
-    roundings::near_over(basis::weighed(b, p0, p1, p2, p3), e)
+    roundings::near_over_tested(basis::weighed(b, p0, p1, p2, p3), e)
 }
 
 // w nodes of one raster row.

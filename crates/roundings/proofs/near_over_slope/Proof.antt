@@ -25,7 +25,7 @@ add-near-shift : tie.Need-add-near-shift
 add-near-shift c = search needs
 
 near-shift-requires : tie.Need-near-shift-requires
-near-shift-requires c κs = (small 4_000_000_000_000_000_000 tt (sum c .held), omega arith, omega arith)
+near-shift-requires c κs = (small 3_300_000_000_000_000_000 tt (sum c .held), omega arith, omega arith)
 
 returns : tie.Need-returns
 returns c =

@@ -63,15 +63,15 @@ ring-sum-requires-4 c κs = search needs
 weighed-requires : tie.Need-weighed-requires
 weighed-requires c κs = (start c .pre .2, four-small (value c) (cell c) (start c .pre .4) (sum0 c) (sum1 c) (sum2 c) (sum3 c))
 
-near-over-requires : tie.Need-near-over-requires
-near-over-requires c κs = search needs
+near-over-tested-requires : tie.Need-near-over-tested-requires
+near-over-tested-requires c κs = search needs
 
 returns : tie.Need-returns
 unfolding nodeAt
 returns c =
     let d = c .before .before in
     step-is (value d) (cell d) (start d .pre .4) (sum0 d) (sum1 d) (sum2 d) (sum3 d) (numerators (start d .args .b)) (denominator (2 ^ start d .args .e))
-    (c .before .weighed .ok) (c .before .weighed .ensures .0) (c .near-over .ok) (c .near-over .ensures)
+    (c .before .weighed .ok) (c .before .weighed .ensures .0) (c .near-over-tested .ok) (c .near-over-tested .ensures)
 
 pub node-spec : {M : Type 1} → statement M
 node-spec =
@@ -85,5 +85,5 @@ node-spec =
     add-ring-sum-3
     ring-sum-requires-4
     weighed-requires
-    near-over-requires
+    near-over-tested-requires
     returns)
