@@ -189,14 +189,30 @@ static job *fit_job(size_t cells, size_t h, size_t points)
     return j;
 }
 
-/* The same with a wrong last shot, 4,000 metres below the datum: what level 0 leaves of it is out of range. */
+/* The same with a wrong last shot, 4,000 metres below the datum: the ground stands above it, and so does the base. */
 static job *wrong_shot_job(size_t cells, size_t h, size_t points)
 {
     job *j = fit_job(cells, h, points);
     int64_t *z = j->call.slice[Z].at;
 
     z[points - 1] = INT64_C(-4000000000);
-    j->number = RESIDUAL_OUT;
+    j->number = DIFFERENCE_OUT;
+    return j;
+}
+
+/* The same with the wrong shot nearer, and by itself at the far corner: the others stand in the half that is nearer along x. */
+static job *far_shot_job(size_t cells, size_t h, size_t points)
+{
+    job *j = fit_job(cells, h, points);
+    uint16_t *x = j->call.slice[X].at, *y = j->call.slice[Y].at;
+    int64_t *z = j->call.slice[Z].at;
+    size_t at;
+
+    for (at = 0; at < points; at++)
+        x[at] /= 2;
+    x[points - 1] = y[points - 1] = (uint16_t)(16 * CURLEW_CELLS(cells, h));
+    z[points - 1] = INT64_C(-3000000000);
+    j->number = QUOTIENT_OUT;
     return j;
 }
 
@@ -350,7 +366,8 @@ static void calls_table(void)
     line("fit, 500 points, 1 x 1, h = 4", fit_job(1, 4, 500));
     line("fit, 5,000 points, 4 x 4, h = 5", fit_job(4, 5, 5000));
     line("fit, 65,535 points, 16 x 16, h = 5", fit_job(16, 5, 65535));
-    line("fit, 5,000 points, a residual is out of range", wrong_shot_job(4, 5, 5000));
+    line("fit, 5,000 points, a difference is out of range", wrong_shot_job(4, 5, 5000));
+    line("fit, 5,000 points, a quotient is out of range", far_shot_job(4, 5, 5000));
     line("height, 1 x 1", positions_job(HEIGHT_AT, 1));
     line("height, 64 x 64 (a scan of 4,489 values)", positions_job(HEIGHT_AT, 64));
     line("slopes, 1 x 1", positions_job(SLOPE_AT, 1));

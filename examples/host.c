@@ -86,6 +86,7 @@ static const struct { const char *words, *place; } refusals[] = {
     { "bytes after the end", "the first such byte" },
     { "a residual out of range in a level of the fit", "the level" },
     { "a sum out of range in a level of the fit", "the level" },
+    { "a difference from the base of the fit out of range", "the point's index" },
 };
 
 /* The point file is named, so that the words can be told apart where many hosts run side by side. */

@@ -31,10 +31,12 @@
  *   12  bytes after the end                                                               the first such byte
  *   13  a residual out of range in a level of the fit                                           the level
  *   14  a sum out of range in a level of the fit                                                the level
+ *   15  a difference from the base of the fit out of range                                      the point's index
  * A refusal leaves every slice as it was, but for 7, 13 and 14: the scratch prefixes are then zero, as after an acceptance, and
  * lattice and residuals are as they were. The order of the checks is 1, 2, 3, 8, 4, then 5 and 6; points in list order, 5 before 6
- * in a point, elsewhere the whole lattice (6) before positions (5); a fit's levels after its points, one by one, in each all
- * quotients (7), then all residuals (13), then all sums (14); readers record by record, 9, 10, 11, then 12, then 4.
+ * in a point, elsewhere the whole lattice (6) before positions (5); of a fit whose points are all in order the differences (15),
+ * and then its levels one by one, in each all quotients (7), then all residuals (13), then all sums (14), and after the last
+ * level the sums with the base (14); readers record by record, 9, 10, 11, then 12, then 4.
  */
 #ifndef CURLEWTABLE_H
 #define CURLEWTABLE_H
@@ -98,11 +100,15 @@ typedef struct {
 /*
  * Fits one lattice to p points: m0 by n0 coarsest cells (1..16), levels 0 to h (0..5). Positions run 0 to 16 * m0 * 2^h along x,
  * likewise y with n0. Lends: lattice K, residual p, whole scratch 3K + p, f64 scratch 2K (see the macros); longer is fine.
- * Accepted: the cell counts of level h; the lattice and the residuals in their first K and p places. The lattice is read with U = 16.
- * At every position of the grid the height is then accepted, and within h/2 + 1 micrometres of the exact sum of the level surfaces.
+ * The base of the fit is the mean of the z, to the nearest whole micrometre, halves up, or 0 with no points. The levels are fitted
+ * to the differences, z less the base, and the base is added to every control value at the end: far from any point the ground is
+ * as high as the base.
+ * Accepted: the cell counts of level h; the lattice and the residuals, what the levels leave of the differences, in their first K
+ * and p places. The lattice is read with U = 16. At every position of the grid the height is then accepted, and within h/2 + 1
+ * micrometres of the base plus the exact sum of the level surfaces.
  * After acceptance and after refusals 7, 13 and 14 the named scratch prefixes are zero. Places past the prefixes never change.
- * Refuses 1 to 6; then level by level 7, 13, 14: a quotient, which would be a control value of the level; a residual, what the
- * level leaves of a point's z; a sum, a control value of the lattices added up so far.
+ * Refuses 1 to 6, then 15; then level by level 7, 13, 14: a quotient, which would be a control value of the level; a residual, what
+ * the level leaves of a difference; a sum, a control value of the lattices added up so far, and after level h with the base.
  */
 curlew_cells curlew_fit(size_t m0, size_t n0, size_t h, const uint16_t *x, size_t x_len, const uint16_t *y, size_t y_len,
                         const int64_t *z, size_t z_len, int64_t *lattice, size_t lattice_len, int64_t *residual, size_t residual_len,

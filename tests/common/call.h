@@ -79,10 +79,10 @@ static inline int writes(function f, role r)
 }
 
 /* The refusals are numbered from 1 to this, and 0 is an acceptance. The largest number stands here alone. */
-enum { MOST_NUMBER = 14 };
+enum { MOST_NUMBER = 15 };
 
-/* Those that a level of a fit gives: a quotient, a residual or a sum out of range. */
-enum { QUOTIENT_OUT = 7, RESIDUAL_OUT = 13, SUM_OUT = 14 };
+/* Those of a fit alone: a difference from the base out of range; and in a level a quotient, a residual or a sum. */
+enum { DIFFERENCE_OUT = 15, QUOTIENT_OUT = 7, RESIDUAL_OUT = 13, SUM_OUT = 14 };
 
 static inline int in_levels(uint64_t number)
 {

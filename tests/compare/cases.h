@@ -10,7 +10,7 @@
 typedef void test_case(generator *g, size_class size);
 
 /*
- * The surface engine. The fits of range_end_case are the last that the levels accept and the first that one refuses; those of
+ * The surface engine. The fits of range_end_case are the last that are accepted and the first that is refused; those of
  * leap_case are refused in late levels too; those of tie_case have quotients that are exact halves. slope_case also asks for
  * the height, which is refused in the same way.
  */
@@ -35,8 +35,8 @@ size_t some_point_count(generator *g, size_class size);
 void every_file_damage(int few_values);
 
 /*
- * The examples of document 01 by their printed values, slopes of document 02 by known ones, a fit refused for each figure of a
- * level, and each value of some lattices out of range in turn; returns how many examples there are.
+ * The examples of documents 01 and 02 by their printed values, slopes and bases by known ones, a fit refused for each figure,
+ * and each value of some lattices out of range in turn; returns how many examples there are.
  */
 size_t run_examples(void);
 

@@ -1,9 +1,9 @@
 /*
  * Demand 3 on the library's own fits and heights, position by position, in exact whole numbers.
  *
- * T and V are D times the exact sum of the level surfaces and the exact surface of the lattice (see reference.h). Besides
- * the distance that demand 3 allows, V = T is held to where no refinement rounds: where every value of level lattice k is
- * a multiple of 64^(h-k), at h = 0 above all.
+ * T and V are D times the exact sum of the level surfaces and the exact surface of the lattice (see reference.h), and S below
+ * is T + base D. Besides the distance that demand 3 allows, V = S is held to where no refinement rounds: where every value of
+ * level lattice k is a multiple of 64^(h-k), at h = 0 above all.
  */
 #include "cases.h"
 #include "trial.h"
@@ -18,16 +18,16 @@
 #define MOST_POINTS 100
 
 static struct {
-    size_t fits, exact, exact_not_zero;         /* accepted; where no refinement rounds; of these, not all zero */
-    size_t positions, equal, at_bound;          /* checked; where V = T; at exactly the distance allowed */
+    size_t fits, exact, exact_not_level;        /* accepted; where no refinement rounds; of these, not level ground */
+    size_t positions, equal, at_bound;          /* checked; where V = S; at exactly the distance allowed */
 } seen;
 
 void print_demand3(void)
 {
-    printf("demand 3 holds of %zu fits at %zu positions, V = T at %zu, the most distance at %zu\n",
+    printf("demand 3 holds of %zu fits at %zu positions, V = T + base D at %zu, the most distance at %zu\n",
            seen.fits, seen.positions, seen.equal, seen.at_bound);
-    printf("  no refinement rounds in %zu of the fits, %zu of them not all zero: V = T at every position\n",
-           seen.exact, seen.exact_not_zero);
+    printf("  no refinement rounds in %zu of the fits, %zu of them not level ground: V = T + base D at every position\n",
+           seen.exact, seen.exact_not_level);
 }
 
 /* ---- level lattices ---- */
@@ -70,9 +70,14 @@ static int refines_exactly(const size_t *v)
     return 1;
 }
 
-static int all_zero(const call *c)
+/* Whether every level lattice is 0, so that the ground is as high as the base throughout. */
+static int level_ground(const size_t *v)
 {
-    return multiples_of(c->slice[LATTICE].at, CURLEW_FIT_LATTICE(c->number[M], c->number[N], c->number[H]), INT64_MAX);
+    size_t k;
+    for (k = 0; k <= v[H]; k++)
+        if (!multiples_of(levels[k], ref_level_places(v[M], v[N], k), INT64_MAX))
+            return 0;
+    return 1;
 }
 
 /* ---- positions ---- */
@@ -109,19 +114,21 @@ static ref_wide distance(ref_wide left, ref_wide right)
 static void check_position(const call *c, size_t x, size_t y, int exact)
 {
     const size_t *v = c->number;
+    const int64_t base = ref_base(c->slice[Z].at, c->slice[Z].length);
     const ref_height height = height_at(c, x, y);
-    ref_wide big_d, big_t, big_v;
+    ref_wide big_d, big_t, big_v, big_s;
 
-    if (!ref_demand3_holds(v[M], v[N], v[H], levels, c->slice[LATTICE].at, x, y, height))
+    if (!ref_demand3_holds(v[M], v[N], v[H], levels, base, c->slice[LATTICE].at, x, y, height))
         failed_at(c, x, y, "demand 3 does not hold");
     ref_demand3(v[M], v[N], v[H], levels, c->slice[LATTICE].at, x, y, &big_d, &big_t, &big_v);
-    if (exact && big_v != big_t)
-        failed_at(c, x, y, "no refinement rounds, but V is not T");
+    big_s = big_t + base * big_d;
+    if (exact && big_v != big_s)
+        failed_at(c, x, y, "no refinement rounds, but V is not T + base D");
     if (distance(big_d * height.height, big_v) > big_d)
         failed_at(c, x, y, "the height is over 1 from the exact surface");
     seen.positions++;
-    seen.equal += big_v == big_t;
-    seen.at_bound += distance(2 * big_d * height.height, 2 * big_t) == (ref_wide)(v[H] + 2) * big_d;
+    seen.equal += big_v == big_s;
+    seen.at_bound += distance(2 * big_d * height.height, 2 * big_s) == (ref_wide)(v[H] + 2) * big_d;
 }
 
 /* Runs the fit, and holds it to demand 3 at every stride-th position from the first on. */
@@ -137,7 +144,7 @@ static void check_fit(generator *g, draft *d, size_t first, size_t stride)
     exact = refines_exactly(d->call.number);
     seen.fits++;
     seen.exact += (size_t)exact;
-    seen.exact_not_zero += exact && !all_zero(&d->call);
+    seen.exact_not_level += exact && !level_ground(d->call.number);
     for (y = first; y <= d->far_y; y += stride)
         for (x = first; x <= d->far_x; x += stride)
             check_position(&d->call, x, y, exact);
@@ -173,15 +180,24 @@ static void set_point(draft *d, size_t at, size_t x, size_t y, int64_t z)
     ((int64_t *)d->call.slice[Z].at)[at] = z;
 }
 
-/* One point, at a node of the coarsest grid: its level values are z times 1, 4 and 16 over 9, and its residual 0. */
-static void lone_node(generator *g, draft *d)
+/*
+ * Two points at nodes of the coarsest grid, three cells apart or more, as far above their base as below it. Neither touches the
+ * other's control values: those of level 0 are the difference times 1, 4 and 16 over 9, and the residuals 0.
+ */
+static void two_nodes(generator *g, draft *d)
 {
-    const size_t *v = d->call.number, unit = (size_t)16 << v[H];
-    const int64_t power = INT64_C(1) << 6 * v[H];
-    const int64_t most = LIMIT / (16 * power);
+    size_t *v = d->call.number, unit, first;
+    int64_t power, base, difference;
 
-    some_points(g, d, 1);
-    set_point(d, 0, unit * below(g, v[M] + 1), unit * below(g, v[N] + 1), 9 * power * between(g, -most, most));
+    v[M] = 3 + below(g, 2);
+    unit = (size_t)16 << v[H];
+    power = INT64_C(1) << 6 * v[H];
+    base = between(g, -LIMIT / 2, LIMIT / 2);
+    difference = 9 * power * between(g, 0, LIMIT / (32 * power));
+    some_points(g, d, 2);
+    first = below(g, v[M] - 2);
+    set_point(d, 0, unit * first, unit * below(g, v[N] + 1), base + difference);
+    set_point(d, 1, unit * (first + 3 + below(g, v[M] - 2 - first)), unit * below(g, v[N] + 1), base - difference);
 }
 
 /* Two opposite heights close together: too faint for the coarse levels, which stay 0, but not for the finest. */
@@ -200,14 +216,12 @@ static void opposite_pair(generator *g, draft *d)
 
 void exact_case(generator *g, size_class size)
 {
-    draft d = some_grid(g, 2, size == SMALL ? 1 : 4);
+    draft d = some_grid(g, 2, size == SMALL ? 1 : 3);
 
-    if (size == SMALL)
-        lone_node(g, &d);
-    else if (once_in(g, 2))
-        opposite_pair(g, &d);
+    if (size == SMALL || once_in(g, 2))
+        two_nodes(g, &d);
     else
-        lone_node(g, &d);
+        opposite_pair(g, &d);
     check_fit(g, &d, 0, d.call.number[H] > 2 ? 3 : 1);
 }
 

@@ -55,7 +55,7 @@ static void set_heights(draft *d, const int64_t share[MOST_SHARES], int64_t size
         z[at] = size * share[at] / 8;
 }
 
-/* A size whose fit is accepted while a level refuses the next one's; LIMIT if none was found. */
+/* A size whose fit is accepted while the next one's is refused; LIMIT if none was found. */
 static int64_t last_accepted(draft *d, const int64_t share[MOST_SHARES])
 {
     int64_t accepted = 0, refused = LIMIT + 1;
@@ -128,9 +128,10 @@ void leap_case(generator *g, size_class size)
 /* ---- fits whose quotients are halves ---- */
 
 /*
- * Points of one place, so many sixteenths into a cell of the coarsest grid. With so many of them, and heights that are
+ * Points of one place, so many sixteenths into a cell of the coarsest grid. With so many of them, and differences that are
  * such multiples, quotients of level 0 are whole numbers and halves. So the last bit of the f64 arithmetic decides how they
- * round, and any other order of its operations shows. (The order of S shows at 12 sixteenths, not at 0 and 8.)
+ * round, and any other order of its operations shows. (The order of S shows at 12 sixteenths, not at 0 and 8.) As many points
+ * again, four cells away, where they touch no control value of the first ones, stand as far below the base as these above it.
  */
 static const struct {
     size_t x, y, points;
@@ -141,7 +142,7 @@ static const struct {
 };
 
 /*
- * Random multiples for heights. Some of the faint lists sum to one multiple, so that the faintest quotient is 1/2 or beside
+ * Random multiples for differences. Some of the faint lists sum to one multiple, so that the faintest quotient is 1/2 or beside
  * it: just below 1/2, adding 1/2 in f64 would give 1.
  */
 static void set_multiples(generator *g, int64_t *z, size_t points, int64_t multiple)
@@ -162,21 +163,25 @@ static void set_multiples(generator *g, int64_t *z, size_t points, int64_t multi
 void tie_case(generator *g, size_class size)
 {
     const size_t tie = below(g, COUNT(ties)), points = ties[tie].points;
+    const int64_t base = between(g, -LIMIT / 4, LIMIT / 4);
     draft d = new_draft(FIT);
     uint16_t *x = d.call.slice[X].at, *y = d.call.slice[Y].at;
+    int64_t *z = d.call.slice[Z].at;
     size_t unit, at;
 
-    (void)size;
     some_fit_grid(g, &d, SMALL);
-    some_points(g, &d, points);
+    d.call.number[M] = 5 + below(g, 3);
+    some_points(g, &d, 2 * points);
     unit = (size_t)16 << d.call.number[H];
-    x[0] = (uint16_t)(unit * below(g, d.call.number[M]) + ties[tie].x * unit / 16);
+    x[0] = (uint16_t)(unit * below(g, d.call.number[M] - 4) + ties[tie].x * unit / 16);
     y[0] = (uint16_t)(unit * below(g, d.call.number[N]) + ties[tie].y * unit / 16);
-    for (at = 1; at < points; at++) {
-        x[at] = x[0];
+    set_multiples(g, z, points, ties[tie].multiple);
+    for (at = 0; at < 2 * points; at++) {
+        x[at] = (uint16_t)(x[0] + (at < points ? 0 : 4 * unit));
         y[at] = y[0];
+        z[at] = at < points ? base + z[at] : 2 * base - z[at - points];
     }
-    set_multiples(g, d.call.slice[Z].at, points, ties[tie].multiple);
+    (void)size;
     lend_fit(g, &d);
     trial(&d.call);
 }

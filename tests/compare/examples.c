@@ -1,6 +1,6 @@
 /*
- * The examples of document 01 ("Table of checked examples") and a few more with known answers, among them slopes of
- * document 02 and a fit refused for each figure of a level, each as a trial whose answer and results are held to those values.
+ * The examples of document 01 ("Table of checked examples"), as document 02 leaves them, and a few more with known answers,
+ * among them slopes and a fit refused for each figure, each as a trial whose answer and results are held to those values.
  */
 #include "cases.h"
 #include "trial.h"
@@ -69,47 +69,71 @@ static void fit_example(const char *name, size_t h, uint16_t x, int64_t z, uint6
     expect(&d, number, 0, cells, cells);
 }
 
-static void lone_point(void)
+/* "The lone point (0,0,9) now gives 9 throughout, and the lone point at 2,300,000,000 is accepted." */
+static void lone_point(const char *name, size_t h, uint16_t x, int64_t z)
 {
-    static const int64_t lattice[16] = { 1, 4, 1, 0, 4, 16, 4, 0, 1, 4, 1, 0, 0, 0, 0, 0 };
-    const draft d = fit_of_one(0, 0, 9);
+    const draft d = fit_of_one(h, x, z);
+    const size_t places = CURLEW_FIT_LATTICE(1, 1, h);
+    size_t at;
 
-    begin("fit of the lone point (0, 0, 9)");
-    expect(&d, 0, 0, 1, 1);
-    need(&d, memcmp(values_of(&d, LATTICE), lattice, sizeof lattice) == 0 && values_of(&d, RESIDUAL)[0] == 0);
+    begin(name);
+    expect(&d, 0, 0, UINT64_C(1) << h, UINT64_C(1) << h);
+    for (at = 0; at < places; at++)
+        need(&d, values_of(&d, LATTICE)[at] == z);
+    need(&d, values_of(&d, RESIDUAL)[0] == 0);
 }
 
-/* Three shots at one place, the first 8,000 metres above the others. */
-static void residual_out(void)
+/* Points on the diagonal, and how their fit is refused. */
+static void refused_example(const char *name, size_t h, const uint16_t *at, const int64_t *z, size_t points, uint64_t number, uint64_t place)
 {
-    static const uint16_t at[] = { 8, 8, 8 };
-    static const int64_t z[] = { 4000000000, -4000000000, -4000000000 };
-    const draft d = fit_of(0, at, at, z, COUNT(z));
+    const draft d = fit_of(h, at, at, z, points);
 
-    begin("fit with a residual out of range");
-    expect(&d, RESIDUAL_OUT, 0, 0, 0);
+    begin(name);
+    expect(&d, number, place, 0, 0);
 }
 
-/* A height and a depth, which level 1 tells apart. */
-static void sum_out(void)
+/* One for each figure. */
+static void figure_examples(void)
 {
-    static const uint16_t at[] = { 16, 0 };
-    static const int64_t z[] = { 3500000000, -2500000000 };
-    const draft d = fit_of(1, at, at, z, COUNT(z));
+    static const uint16_t one_place[] = { 8, 8, 8 }, corners[] = { 0, 16 }, line[] = { 0, 4, 8 }, near[] = { 16, 0 };
+    static const int64_t far[] = { 4000000000, -4000000000, -4000000000 }, past[] = { 4000000000, -4000000000, -4000000001 };
+    static const int64_t steep[] = { 3000000000, -2000000000 }, pit[] = { 3000000000, -3000000000, 3000000000 };
+    static const int64_t sum[] = { 2600000000, -2400000000 }, crest[] = { 4000000000, 2000000000 };
 
-    begin("fit with a sum out of range");
-    expect(&d, SUM_OUT, 1, 0, 0);
+    refused_example("fit with a difference out of range", 0, one_place, far, COUNT(far), DIFFERENCE_OUT, 0);
+    refused_example("fit with a height out of range after a difference", 0, one_place, past, COUNT(past), 6, 2);
+    refused_example("fit with a quotient out of range", 0, corners, steep, COUNT(steep), QUOTIENT_OUT, 0);
+    refused_example("fit with a residual out of range", 0, line, pit, COUNT(pit), RESIDUAL_OUT, 0);
+    refused_example("fit with a sum out of range, which the base would bring back", 1, near, sum, COUNT(sum), SUM_OUT, 1);
+    refused_example("fit with a final sum out of range", 0, corners, crest, COUNT(crest), SUM_OUT, 0);
 }
 
 /* A residual and a sum that both leave the range in level 1. */
 static void residual_before_sum(void)
 {
-    static const uint16_t x[] = { 21, 21, 30, 12, 10, 15 }, y[] = { 24, 22, 13, 23, 9, 30 };
-    static const int64_t z[] = { -3970333579, 1489305574, 3501600967, -2550897526, -3825073091, 3081664388 };
+    static const uint16_t x[] = { 11, 14, 30, 20, 14, 14 }, y[] = { 24, 18, 16, 20, 14, 28 };
+    static const int64_t z[] = { 3541000000, -3299000000, 2810000000, 1215000000, -2242000000, -3710000000 };
     const draft d = fit_of(1, x, y, z, COUNT(z));
 
     begin("fit with a residual and a sum out of range");
     expect(&d, RESIDUAL_OUT, 1, 0, 0);
+}
+
+/* Heights a half from their mean: the base is the larger of the two whole numbers next to it, and the differences are as large. */
+static void base_examples(void)
+{
+    static const uint16_t at[] = { 8, 8 };
+    static const int64_t z[][2] = { { 0, 1 }, { -1, 0 }, { -2, -1 }, { 4000000000, 3999999999 } };
+    size_t i;
+
+    for (i = 0; i < COUNT(z); i++) {
+        const draft d = fit_of(0, at, at, z[i], 2);
+        const int64_t larger = z[i][0] < z[i][1] ? z[i][1] : z[i][0];
+
+        begin("base between two heights");
+        expect(&d, 0, 0, 1, 1);
+        need(&d, values_of(&d, LATTICE)[3] == larger);          /* touched by the points, with nothing to speak of */
+    }
 }
 
 static void no_points(void)
@@ -125,16 +149,16 @@ static void no_points(void)
 
 static void fit_examples(void)
 {
-    lone_point();
-    fit_example("fit of z 2,200,000,000", 0, 0, 2200000000, 0);
-    fit_example("fit of z 2,300,000,000", 0, 0, 2300000000, QUOTIENT_OUT);
+    lone_point("fit of the lone point (0, 0, 9)", 0, 0, 9);
+    lone_point("fit of z 2,300,000,000", 0, 0, 2300000000);
+    lone_point("fit of a lone point in 6 levels", 5, 77, -3999999999);
     fit_example("fit of x 16", 0, 16, 9, 0);
     fit_example("fit of x 17", 0, 17, 9, 5);
     fit_example("fit of h 5", 5, 0, 9, 0);
     fit_example("fit of h 6", 6, 0, 9, 2);
-    residual_out();
-    sum_out();
+    figure_examples();
     residual_before_sum();
+    base_examples();
     no_points();
 }
 

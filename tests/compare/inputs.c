@@ -155,7 +155,7 @@ static int64_t some_value(generator *g, habit how, double u, double v)
         return between(g, -9, 9);
     case METRES:
         return between(g, -10000000, 10000000);
-    case STEEP:                                 /* about where a lone point of a grid node is refused: 9/4 of 10^9 */
+    case STEEP:                                 /* about where a difference at a grid node is refused: 9/4 of 10^9 */
         return between(g, 2000000000, 2500000000) * (once_in(g, 2) ? 1 : -1);
     case FULL:
         return between(g, -LIMIT, LIMIT);

@@ -1,7 +1,8 @@
 /*
- * A second implementation of document 01 and of document 02's jobs 1 and 3, written from
- * their text: its author had document 01 and the interface reference.h, and the later
- * authors of the slopes and of refusals 13 and 14 their job's text too, and this file as it
+ * A second implementation of document 01 and of document 02's jobs 1, 3 and 4, written from
+ * their text: its author had document 01 and the interface reference.h, the later author of
+ * the slopes that job's text too, and this file as it stood, and the authors of refusals 13
+ * and 14 and of the base documents 01 and 02, the interface, this file and README.md as they
  * stood. None had the definitions, nor the library's code, nor any paper that explains them.
  * README.md says how they read what the text leaves open.
  *
@@ -352,11 +353,32 @@ static verdict check_points(size_t m0, size_t n0, size_t h, size_t points,
     return (verdict){ 0, 0 };
 }
 
+/* ---- The base ---- */
+
+/* "near of the mean height, or 0 with no points": in range, as it lies between heights that are. */
+int64_t ref_base(const int64_t *z, size_t points)
+{
+    int64_t sum = 0;
+    for (size_t i = 0; i < points; i++)
+        sum += z[i];
+    return points == 0 ? 0 : ref_near(sum, (int64_t)points);
+}
+
+/* The point that 15 names, "where a difference is out of range"; points if there is none. */
+static size_t first_difference_out(const int64_t *z, size_t points, int64_t base)
+{
+    size_t i = 0;
+    while (i < points && in_range(z[i] - base))
+        i++;
+    return i;
+}
+
 /* ---- The whole fit ---- */
 
-/* What a fit works on: the caller's points and the two scratch slices in their parts. */
+/* What a fit works on: the caller's points, their base and the two scratch slices in their parts. */
 typedef struct {
     size_t m0, n0, h, points;
+    int64_t base;
     const uint16_t *x, *y;
     int64_t *level, *running, *spare, *residual;
     double *first, *second;         /* the two running sums of every control value */
@@ -433,13 +455,40 @@ static int lower_residuals(const fit_work *f, size_t m, size_t n, unsigned shift
     return 1;
 }
 
-/* Adds the level lattice to the running one; 0 if a sum leaves the range. */
-static int add_level(int64_t *restrict running, const int64_t *restrict level, size_t places)
+/* Which sums a level accepts. */
+typedef struct { int64_t lowest, highest; } limits;
+
+/*
+ * Sums in range; at level h those of them whose "final sum", with the base, is in range as well. That
+ * comes "after that level's own sums" but with their number and level, so one look at a sum asks both.
+ */
+static limits limits_of_sums(const fit_work *f, size_t k)
+{
+    int64_t base = k == f->h ? f->base : 0;
+    return (limits){ base < 0 ? -BOUND - base : -BOUND, base > 0 ? BOUND - base : BOUND };
+}
+
+static int within(int64_t sum, limits of)
+{
+    return sum >= of.lowest && sum <= of.highest;
+}
+
+/* Of a level that adds to no running lattice; 0 if a sum leaves the limits. */
+static int check_sums(const int64_t *running, size_t places, limits of)
+{
+    int good = 1;
+    for (size_t i = 0; i < places; i++)
+        good &= within(running[i], of);
+    return good;
+}
+
+/* Adds the level lattice to the running one; 0 if a sum leaves the limits. */
+static int add_level(int64_t *restrict running, const int64_t *restrict level, size_t places, limits of)
 {
     int good = 1;
     for (size_t i = 0; i < places; i++) {
         running[i] += level[i];
-        good &= in_range(running[i]);
+        good &= within(running[i], of);
     }
     return good;
 }
@@ -453,8 +502,8 @@ typedef enum { NONE, QUOTIENT, RESIDUAL, SUM } cause;
 static const uint64_t number_of[] = { [NONE] = 0, [QUOTIENT] = 7, [RESIDUAL] = 13, [SUM] = 14 };
 
 /*
- * Level k of the fit: all its quotients before its residuals, and all these before its sums, of which
- * level 0 has none. kept, if any, receives the level lattice.
+ * Level k of the fit: all its quotients before its residuals, and all these before its sums. At level 0
+ * only a final one can leave the range, where h is 0. kept, if any, receives the level lattice.
  */
 static cause run_level(fit_work *f, size_t k, int64_t *kept)
 {
@@ -471,17 +520,18 @@ static cause run_level(fit_work *f, size_t k, int64_t *kept)
     if (k == 0) {                   /* no running lattice yet: the level lattice becomes it */
         f->running = f->level;
         f->level = old;
-        return NONE;
+        return check_sums(f->running, places, limits_of_sums(f, k)) ? NONE : SUM;
     }
     refine_lattice(m / 2, n / 2, old, f->spare);
     f->running = f->spare;
     f->spare = old;
-    return add_level(f->running, f->level, places) ? NONE : SUM;
+    return add_level(f->running, f->level, places, limits_of_sums(f, k)) ? NONE : SUM;
 }
 
 /*
  * Both fits; ref_fit lends no levels. All work is done in the scratch, as a refusal in a
- * level, 7, 13 or 14, leaves lattice and residuals as they were.
+ * level, 7, 13 or 14, leaves lattice and residuals as they were. 15 comes "after 6 and before
+ * level 0" with "every slice left", so no difference is written before all are asked.
  */
 ref_cells ref_fit_levels(size_t m0, size_t n0, size_t h,
                          const uint16_t *x, size_t x_len, const uint16_t *y, size_t y_len,
@@ -500,18 +550,23 @@ ref_cells ref_fit_levels(size_t m0, size_t n0, size_t h,
     verdict bad = check_points(m0, n0, h, points, x, y, z);
     if (bad.number != 0)
         return (ref_cells){ .number = bad.number, .place = bad.place };
+    int64_t base = ref_base(z, points);
+    size_t far = first_difference_out(z, points, base);
+    if (far < points)
+        return (ref_cells){ .number = 15, .place = far };
 
-    fit_work f = { m0, n0, h, points, x, y,
+    fit_work f = { m0, n0, h, points, base, x, y,
                    whole, whole + places, whole + 2 * places, whole + 3 * places,
                    floats, floats + places };
     for (size_t i = 0; i < points; i++)
-        f.residual[i] = z[i];
+        f.residual[i] = z[i] - base;    /* "Fit the differences" */
     cause bad_level = NONE;
     size_t k = 0;
     while (k <= h && (bad_level = run_level(&f, k, levels == NULL ? NULL : levels[k])) == NONE)
         k++;
     if (bad_level == NONE) {
-        memcpy(lattice, f.running, places * sizeof *lattice);
+        for (size_t i = 0; i < places; i++)
+            lattice[i] = f.running[i] + base;
         for (size_t i = 0; i < points; i++)
             residual[i] = f.residual[i];
     }
@@ -873,9 +928,10 @@ size_t ref_program(const uint8_t *input, size_t input_len, uint8_t *output)
  * with U at most 512, 36 * 2^54 < 2^60 times anything in 64 bits stays below 2^123.
  * Level k of T: its U is 16 * 2^(h-k), so D / 36U^6 is 2^(6k), and its term is the
  * double sum times 2^(6k), at most BOUND * D < 2^32 * 2^60 = 2^92. The sum of the
- * at most six terms is below 2^95, and so are its partial sums. V is one such term.
+ * at most six terms is below 2^95, and so are its partial sums. V is one such term,
+ * and so is base * D: T + base * D is below 2^96.
  * 2 * D * height is below 2 * 2^60 * 2^63 = 2^124 for any 64-bit height, so its
- * difference from 2 * T is below 2^125. (h + 2) * D is below 2^63.
+ * difference from 2 * (T + base * D) is below 2^125. (h + 2) * D is below 2^63.
  */
 
 size_t ref_level_places(size_t m0, size_t n0, size_t k)
@@ -938,14 +994,15 @@ void ref_demand3(size_t m0, size_t n0, size_t h, int64_t *const *levels, const i
     *v = ref_V(m0, n0, h, lattice, x, y);
 }
 
-int ref_demand3_holds(size_t m0, size_t n0, size_t h, int64_t *const *levels, const int64_t *lattice,
+/* "from the exact level sum plus the base": the levels are those of the differences, so T has no base in it. */
+int ref_demand3_holds(size_t m0, size_t n0, size_t h, int64_t *const *levels, int64_t base, const int64_t *lattice,
                       size_t x, size_t y, ref_height answer)
 {
     if (answer.number != 0)
         return 0;
     ref_wide d, t, v;
     ref_demand3(m0, n0, h, levels, lattice, x, y, &d, &t, &v);
-    ref_wide off = 2 * d * answer.height - 2 * t;
+    ref_wide off = 2 * d * answer.height - 2 * (t + base * d);
     if (off < 0)
         off = -off;
     return off <= (ref_wide)(h + 2) * d;

@@ -1,7 +1,7 @@
 /*
  * A second implementation of the ground lattice of document 01, of the slopes of
- * document 02's first job and of the refusals 13 and 14 of its third, in plain C99,
- * written from their text.
+ * document 02's first job, of the refusals 13 and 14 of its third and of the base of its
+ * fourth, in plain C99, written from their text.
  *
  * Every call checks its arguments itself, refuses as the documents say and then
  * leaves the slices as they say. Any argument may have any value; a
@@ -72,10 +72,14 @@ __extension__ typedef __int128 ref_wide;
 /* Places of level lattice k: (m0 * 2^k + 3)(n0 * 2^k + 3). */
 size_t ref_level_places(size_t m0, size_t n0, size_t k);
 
+/* The base of document 02's job 4, of points whose heights are all in range; 0 with no points. */
+int64_t ref_base(const int64_t *z, size_t points);
+
 /*
  * The fit again, keeping every level lattice: levels has h + 1 arrays, and array k at least
  * ref_level_places(m0, n0, k) places. Answer and slices are those of ref_fit. The levels hold
- * the level lattices on acceptance only; refusals 1 to 6 leave them as they were.
+ * the level lattices, which are those of the differences, on acceptance only; refusals 1 to 6 and 15
+ * leave them as they were.
  */
 ref_cells ref_fit_levels(size_t m0, size_t n0, size_t h,
                          const uint16_t *x, size_t x_len, const uint16_t *y, size_t y_len,
@@ -109,9 +113,9 @@ void ref_demand3(size_t m0, size_t n0, size_t h, int64_t *const *levels, const i
 
 /*
  * 1 if demand 3's distance holds of this height answer at this position, else 0: accepted, and
- * |2 D height - 2 T| at most (h + 2) D. The equal case is compare/demand3.c's, which sees the levels whole.
+ * |2 D height - 2 (T + base D)| at most (h + 2) D. The equal case is compare/demand3.c's, which sees the levels whole.
  */
-int ref_demand3_holds(size_t m0, size_t n0, size_t h, int64_t *const *levels, const int64_t *lattice,
+int ref_demand3_holds(size_t m0, size_t n0, size_t h, int64_t *const *levels, int64_t base, const int64_t *lattice,
                       size_t x, size_t y, ref_height answer);
 
 #endif

@@ -1,5 +1,5 @@
 -- What the fit answers and leaves: a refusal before the levels is the rules' and leaves all as it was; what `run` leaves, cleared, is the rules'.
-use mathlib.Core.Path.{_≡_, sym, subst}
+use mathlib.Core.Path.{_≡_, sym, ap, subst, _∙_}
 use mathlib.Core.Bool.{_&&_}
 use mathlib.Core.Option.{none, some}
 use mathlib.Core.List.{List}
@@ -13,14 +13,19 @@ use mir.Facts.{and-yes}
 use Rattle.algebra.specs.Table.{over}
 use Rattle.rules.specs.Grid.{cellsAt, controls}
 use Rattle.rules.specs.Level.{zero64}
-use Rattle.rules.specs.Fit.{Shape, columns, rows, Survey, pointCount, levelsCheck}
-use Rattle.rules.specs.Answers.{Refusal, short, _then_, Answer, refused, outcome}
+use Rattle.rules.specs.Fit.{Shape, columns, rows, Survey, pointCount, base, fromBase, differenceCheck, figuresCheck}
+use Rattle.rules.specs.Answers.{Refusal, short, _then_, Answer, refused, answer, outcome}
 use Rattle.rules.specs.Calls.{CellCounts, Lent, lent, K, surveyCheck, roomCheck, lentCheck, pointsCheck, cleared, fitEnd, fitCall}
 use Rattle.rules.specs.Demand3.{Demand3}
-use Rattle.rules.specs.Laws.Checks.{required}
-use Rattle.rules.specs.Laws.Passed.{Sides, Surveyed, level-sides, points-passed, controls-fit}
+use Rattle.rules.specs.Laws.Checks.{required, AllInRange, answer-none, answer-value, answer-refused}
+use Rattle.rules.specs.Laws.Passed.{Sides, Surveyed, level-sides, points-passed, based-surveyed, based-placed, controls-fit}
 use Rattle.rules.specs.Laws.Refused.{earlyCheck, grouped, early-only}
 use Rattle.rules.specs.Laws.Distance.{demand3}
+use Rattle.answers.specs.Cause.{cause}
+use Rattle.answers.specs.declared.Refusal as coded
+use Rattle.base.specs.Told.{told}
+use Rattle.base.specs.declared.BaseTold.{BaseTold}
+use Rattle.base.specs.declared.BaseTold.the-variants.{Base, Refused}
 use Rattle.scratch.specs.Scratch.{Levelable, Celled}
 
 -- ---- the fit
@@ -51,14 +56,19 @@ module _ (a : Shape) (s : Survey) (l : Lent) where
       unfolding _then_
       refused-points e = refused-early (rw (head, room, e))
 
-      -- what `run` leaves is cleared
-      pub run-cleared : {t : Answer CellCounts} {most : ℕ} (n : Lent) {whole : List ℤ} {floats : List Float} → pointsCheck 16 (columns a (a .h)) (rows a (a .h)) s ≡ none → most ≡ K a
-          → outcome t (cleared a (pointCount s) n) ≡ fitEnd a s l (levelsCheck a s)
-          → whole ≡ over (replicate (3 * most + pointCount s) (pos 0)) (n .whole) → floats ≡ over (replicate (2 * most) zero64) (n .floats)
-          → Promised t (lent (n .lattice) (n .residual) whole floats)
-      unfolding fitCall cleared _then_
-      run-cleared {t} {most} n points most-is ends w f =
-          promised (rw (grouped a s l, head, room, points, w, f, most-is) ends)
+      module _ (points : pointsCheck 16 (columns a (a .h)) (rows a (a .h)) s ≡ none) where
+        pub refused-difference : {r : Refusal} → differenceCheck (s .zs) ≡ some r → Promised (refused r) l
+        unfolding _then_
+        refused-difference e = refused-early (rw (head, room, points, e))
+
+        -- what `run` leaves is cleared
+        pub run-cleared : {t : Answer CellCounts} {most : ℕ} (n : Lent) {whole : List ℤ} {floats : List Float} → differenceCheck (s .zs) ≡ none → most ≡ K a
+            → outcome t (cleared a (pointCount s) n) ≡ fitEnd a s l (figuresCheck a s)
+            → whole ≡ over (replicate (3 * most + pointCount s) (pos 0)) (n .whole) → floats ≡ over (replicate (2 * most) zero64) (n .floats)
+            → Promised t (lent (n .lattice) (n .residual) whole floats)
+        unfolding fitCall cleared _then_
+        run-cleared {t} {most} n near most-is ends w f =
+            promised (rw (grouped a s l, head, room, points, near, w, f, most-is) ends)
 
 -- ---- what the checks before the levels have shown
 
@@ -95,6 +105,17 @@ finest-celled {a = a} {m = m} {n = n} shown m-is n-is =
     let sides : Sides 512 m n = rw (m-is, n-is) (level-sides (a .m0) (a .n0) (a .h) (shown .sides) (shown .levels-most)) in
     record { m-is = m-is; n-is = n-is; sides = sides; count = omega arith; most-fits = controls-fit m n (sides .1) (sides .3) }
 
+-- the heights are in range
+pub heights-ranged : (a : Shape) (s : Survey) → Surveyed a s → pointsCheck 16 (columns a (a .h)) (rows a (a .h)) s ≡ none → AllInRange (length (s .zs)) (s .zs)
+heights-ranged a s shown e i l = points-passed 16 (columns a (a .h)) (rows a (a .h)) s e i (rw (← shown .as-many-z) l) .z-size
+
+-- what `settle` told
+pub base-told : (zs : List ℤ) {t : BaseTold} {b : ℤ} → told t ≡ answer (differenceCheck zs) (base zs) → t ≡ Base b → (differenceCheck zs ≡ none) × (b ≡ base zs)
+base-told zs {b = b} e is = let known = sym e ∙ ap told is in (answer-none _ _ _ known, sym (answer-value _ _ _ known))
+
+pub difference-told : (zs : List ℤ) {t : BaseTold} {r : coded.Refusal} → told t ≡ answer (differenceCheck zs) (base zs) → t ≡ Refused r → differenceCheck zs ≡ some (cause r)
+difference-told zs e is = answer-refused _ _ _ (sym e ∙ ap told is)
+
 module _ {a : Shape} {m n : ℕ} (z : Celled a (a .h) ((m + 3) * (n + 3)) m n) where
   pub most-is : (m + 3) * (n + 3) ≡ K a
   unfolding K controls
@@ -104,11 +125,11 @@ module _ {a : Shape} {m n : ℕ} (z : Celled a (a .h) ((m + 3) * (n + 3)) m n) w
   pub points-is : (s : Survey) → pointsCheck 16 m n s ≡ pointsCheck 16 (columns a (a .h)) (rows a (a .h)) s
   points-is s = rw (z .m-is, z .n-is)
 
-  pub run-ready : {s : Survey} {lattice residual whole floats : ℕ} → Surveyed a s → pointsCheck 16 (columns a (a .h)) (rows a (a .h)) s ≡ none
-      → Roomy (pointCount s) ((m + 3) * (n + 3)) lattice residual whole floats → Levelable a s ((m + 3) * (n + 3)) whole floats
-  run-ready {s = s} shown e r = record {
-    surveyed = shown;
-    placed = points-passed 16 (columns a (a .h)) (rows a (a .h)) s e;
+  pub run-ready : {s : Survey} {lattice residual whole floats : ℕ} → Surveyed a s → pointsCheck 16 (columns a (a .h)) (rows a (a .h)) s ≡ none → differenceCheck (s .zs) ≡ none
+      → Roomy (pointCount s) ((m + 3) * (n + 3)) lattice residual whole floats → Levelable a (fromBase s) ((m + 3) * (n + 3)) whole floats
+  run-ready {s = s} shown e near r = record {
+    surveyed = based-surveyed shown;
+    placed = based-placed shown near (points-passed 16 (columns a (a .h)) (rows a (a .h)) s e);
     most-is = most-is;
     most-fits = z .most-fits;
     whole-room = r .for-whole;

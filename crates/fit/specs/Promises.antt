@@ -1,5 +1,5 @@
--- What a refused fit promises beyond its equation with the rules: its number and place say which figure of which level left its range, and its number what
--- is left as it was.
+-- What a refused fit promises beyond its equation with the rules: its number and place say which figure left its range, of which point or level, and its
+-- number what is left as it was.
 use mathlib.Core.Path.{_≡_, refl, sym, ap, _∙_}
 use mathlib.Core.Bool.{cond}
 use mathlib.Core.Option.{some}
@@ -19,7 +19,7 @@ module _ (a : Shape) (s : Survey) (lent after : Lent) (r : CellsTold) (rules : o
   pub which-figure : law.WhichFigure a s (number f) (place f)
   which-figure = law.which-figure a s lent f refuses
 
-  -- after 7, 13 and 14 the scratch is zero, and lattice and residuals are as they were; after every other refusal everything is
+  -- after 7, 13 and 14 the scratch is zero, and lattice and residuals are as they were; after every other refusal, 15 among them, everything is
   pub left : after ≡ cond (ofLevels (number f)) (cleared a (pointCount s) lent) lent
   unfolding fitCall fitEnd
   left = ap (λ (o : Outcome CellCounts Lent). o .slices) rules ∙ rw (refuses, in-levels f) refl

@@ -1,4 +1,4 @@
-// The whole fit: from points to one lattice, behind document 01's checks, in slices that the caller lends.
+// The whole fit: from points to one lattice, behind the checks of documents 01 and 02, in slices that the caller lends.
 // Lattice and residuals are written once, at the end, so that a refusal leaves them as they were; then the scratch is cleared.
 ghost use mathlib.Core.Path.{_≡_};
 ghost use Rattle.rules.specs.Answers.{outcome};
@@ -8,8 +8,9 @@ ghost use Rattle.rules.specs.Demand3.{Demand3};
 ghost use Rattle.answers.specs.CellsTold.{told};
 use answers::CellsTold;
 use answers::Verdict;
+use base::BaseTold;
 
-// A fit, behind document 01's checks in their order. After them the scratch is used, and cleared whatever the levels answer.
+// A fit, behind its checks in their order. After them the scratch is used, and cleared whatever the levels answer.
 pub fn fit(
     m0: usize,
     n0: usize,
@@ -45,6 +46,12 @@ pub fn fit(
     if let Verdict::Refused(r) = point_checks::points(m, n, xs, ys, zs) {
         return CellsTold::Refused(r);
     }
+    let base = match base::settle(zs) {
+        BaseTold::Base(z) => z,
+        BaseTold::Refused(r) => {
+            return CellsTold::Refused(r);
+        }
+    };
     let answer = fitting::run(
         m0,
         n0,
@@ -53,6 +60,7 @@ pub fn fit(
         xs,
         ys,
         zs,
+        base,
         lattice,
         residual,
         whole,

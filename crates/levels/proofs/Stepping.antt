@@ -124,6 +124,7 @@ module _ {a : Shape} {s : Survey} {most k : ℕ} {whole₀ whole : List ℤ} {fl
         is = sym (rw last at (p .passed));
         leaves = λ _. record {
           lattice-is = ap (λ c. area (a .h % 2 * most) c whole) (l .most-is) ∙ p .before .running-before (a .h) (omega arith) .is;
+          lattice-ranged = rw (l .most-is) (p .before .running-before (a .h) (omega arith) .ranged);
           residuals-are = rw last at (p .before .residuals-there .is);
         };
       }

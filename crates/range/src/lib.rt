@@ -2,10 +2,12 @@
 ghost use mathlib.Core.Path.{_≡_};
 ghost use Prim.Native.Nat.{ℕ, _+_, _^_, _<_, _≤_};
 ghost use lib.Dec.{ltb};
+ghost use lib.IntN.{natAbs};
 ghost use lib.ListN.{length};
 ghost use Rattle.rules.specs.Answers as rule;
-ghost use Rattle.rules.specs.Grid.{inRange};
-ghost use Rattle.rules.specs.Laws.Checks.{NoneOut, SomeOut, FirstOut};
+ghost use Rattle.rules.specs.Fit.{shifted};
+ghost use Rattle.rules.specs.Grid.{limit, inRange};
+ghost use Rattle.rules.specs.Laws.Checks.{AllInRange, NoneOut, SomeOut, FirstOut};
 ghost use Rattle.answers.specs.Cause.{okCheck};
 ghost use Rattle.range.specs.Found.{foundCheck};
 
@@ -111,4 +113,18 @@ pub fn first_out(values: &[i64], n: usize) -> Found
         }
     }
     Found::At(search(values, i))
+}
+
+// Whether values in range are still in range with b added to each. As in a block of a scan, none is tested by itself.
+pub fn all_shifted(values: &[i64], b: i64) -> bool
+    requires { ⌜ AllInRange (length (now values)) (now values) × (natAbs b ≤ limit) ⌝ }
+    ensures { λ ok. ⌜ ((r : rule.Refusal) → rule.rangeCheck (length (now (values .entry))) (shifted b (now (values .entry))) (λ i. r) ≡ okCheck ok r) ⌝ }
+{
+    let mut bits = 0u64;
+    let mut i = 0;
+    while i < values.len() {
+        bits = bits | range_bits(values[i] + b);
+        i += 1;
+    }
+    bits < 9_223_372_036_854_775_808
 }

@@ -1,4 +1,4 @@
--- A survey that the program takes passes every check of the fit before the levels, and the lattice file of what the fit leaves is the answer.
+-- A survey that the program takes passes the fit's checks 1 to 6, and the lattice file of what the fit leaves is the answer.
 use mathlib.Core.Path.{_≡_, refl, sym, ap, ap₂, _∙_}
 use mathlib.Core.Option.{none}
 use mathlib.Core.List.{List, _++_}
@@ -10,15 +10,15 @@ use lib.IntN.{ℤ}
 use lib.ListN.{length}
 use Rattle.algebra.specs.Table.{over, joined-same}
 use Rattle.rules.specs.Grid.{controls, control}
-use Rattle.rules.specs.Fit.{Shape, columns, rows, Survey, pointCount, singleLattice, levelsCheck}
-use Rattle.rules.specs.Answers.{Refusal, require, Answer, accepted, refused, Outcome, outcome}
+use Rattle.rules.specs.Fit.{Shape, columns, rows, Survey, pointCount, singleLattice, differenceCheck, figuresCheck}
+use Rattle.rules.specs.Answers.{Refusal, require, _then_, Answer, accepted, refused, Outcome, outcome}
 use Rattle.rules.specs.Calls.{CellCounts, Lent, K, roomCheck, lentCheck, fitCheck, fitCall}
 use Rattle.rules.specs.Bytes.{bytesOf, valueBytes}
 use Rattle.rules.specs.LatticeFile.{LH, LR, LE, rowRecord, latticeFile, rowLength, rowStart, latticeFileLength}
 use Rattle.rules.specs.Program.{refusedLine, written}
 use Rattle.rules.specs.Laws.Checks.{then-none}
 use Rattle.rules.specs.Laws.Passed.{surveyed-passes, placed-pass, FitAccepted, fit-accepted, fit-refused}
-use Rattle.rules.specs.Laws.Fit.{length-running}
+use Rattle.rules.specs.Laws.Base.{length-single}
 use Rattle.rules.specs.Laws.Surface.{Same, control-over}
 use Rattle.refused_line.specs.Wrote.{Wrote}
 use Rattle.respond.specs.Taken.{Taken, answerText}
@@ -63,7 +63,7 @@ module _ {a : Shape} {s : Survey} (t : Taken a s) (w : Lent) (lattice : 361 ≡ 
       (le-leb (K a) (length (w .lattice)) (omega arith), le-leb p (length (w .residual)) (omega arith), le-leb (3 * K a + p) (length (w .whole)) (omega arith), le-leb (2 * K a) (length (w .floats)) (omega arith))
       refl
 
-  fit-is : fitCheck a s w ≡ levelsCheck a s
+  fit-is : fitCheck a s w ≡ (differenceCheck (s .zs) then figuresCheck a s)
   unfolding fitCheck
   fit-is =
       then-none _ _ (surveyed-passes a s (t .writable .surveyed))
@@ -101,9 +101,8 @@ module _ {a : Shape} {s : Survey} (t : Taken a s) (w : Lent) (lattice : 361 ≡ 
       answer-is = rw (← fit-is, fine .unrefused, across, up) refl
 
       pub file-is : latticeFile m n (left .lattice) ≡ answerText a s
-      unfolding singleLattice
       file-is =
           ap (λ (o : Outcome CellCounts Lent). latticeFile m n (o .slices .lattice)) fitted
           ∙ ap (latticeFile m n) (fine .lattice-is)
-          ∙ file-reads m n _ _ (control-over m n (singleLattice a s) (w .lattice) (length-running a s (a .h) ∙ ap₂ controls across up))
+          ∙ file-reads m n _ _ (control-over m n (singleLattice a s) (w .lattice) (length-single a s ∙ ap₂ controls across up))
           ∙ sym answer-is

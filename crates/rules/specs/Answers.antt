@@ -22,6 +22,8 @@ pub data Refusal : Type 0 where
   position : ℕ → Refusal
   -- "height or control value out of range": its index
   range : ℕ → Refusal
+  -- "where a difference is out of range", of document 02: the point's index
+  difference : ℕ → Refusal
   -- "a quotient, then a residual, then a sum out of range in a level": the level
   quotient : ℕ → Refusal
   residual : ℕ → Refusal
@@ -36,7 +38,7 @@ pub data Refusal : Type 0 where
   -- "bytes after the end": the first such byte
   trailing : ℕ → Refusal
 
--- the column "Number", and "13 for a residual and 14 for a sum" of document 02
+-- the column "Number", and of document 02 "13 for a residual and 14 for a sum" and 15
 abbrev pub number : Refusal → ℕ
 number cells = 1
 number levels = 2
@@ -45,6 +47,7 @@ number lists = 3
 number short = 4
 number (position i) = 5
 number (range i) = 6
+number (difference i) = 15
 number (quotient k) = 7
 number (residual k) = 13
 number (sum k) = 14
@@ -63,6 +66,7 @@ place lists = 0
 place short = 0
 place (position i) = i
 place (range i) = i
+place (difference i) = i
 place (quotient k) = k
 place (residual k) = k
 place (sum k) = k
@@ -81,6 +85,7 @@ inLevels lists = false
 inLevels short = false
 inLevels (position i) = false
 inLevels (range i) = false
+inLevels (difference i) = false
 inLevels (quotient k) = true
 inLevels (residual k) = true
 inLevels (sum k) = true

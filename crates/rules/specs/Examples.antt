@@ -1,4 +1,5 @@
--- "Table of checked examples" of document 01: E1 to E8 and the three near examples, with slopes that tell the order of their roundings, as one computed table.
+-- "Table of checked examples" of document 01: E1 to E8 and the three near examples, with slopes that tell the order of their roundings and bases that tell
+-- near from floor, as one computed table.
 use Prim.Native.Nat.{ℕ, zero, suc, _+_, _/_, _%_}
 use mathlib.Core.Bool.{Bool, true, false, _&&_, cond}
 use mathlib.Core.List.{List, [], _∷_}
@@ -9,6 +10,7 @@ use Rattle.rules.specs.Grid.{Lattice}
 use Rattle.rules.specs.Surface.{square, cube, numerator, denominator, cell, offset, weighted, along, height}
 use Rattle.rules.specs.Slope.{slopeNumerator, slopeDenominator, slopeAlong, slopeX, slopeY}
 use Rattle.rules.specs.Refinement.{masked, finer, finer2, refined}
+use Rattle.rules.specs.Fit.{total, nearMean, base}
 
 -- "one control value set, others 0": v in column s and row t, which are the indices (s - 1, t - 1)
 unfoldable pub single : ℕ → ℕ → ℤ → Lattice
@@ -76,9 +78,15 @@ table =
     -- (-1,0)=3: the columns are 2 and 0, the rows 0, 1 and 0
     ∷ (slopeX 16 1 1 (single 0 1 (pos 3)) 0 0 is negℤ (pos 62))
     ∷ (slopeY 16 1 1 (single 0 1 (pos 3)) 0 0 is pos 0)
+    -- bases: near of a mean of 1/2, of -1/2, of 2/3 and of -2/3, and of no heights
+    ∷ (base (pos 0 ∷ pos 1 ∷ []) is pos 1)
+    ∷ (base (negℤ (pos 1) ∷ pos 0 ∷ []) is pos 0)
+    ∷ (base (pos 1 ∷ pos 1 ∷ pos 0 ∷ []) is pos 1)
+    ∷ (base (negℤ (pos 1) ∷ pos 0 ∷ negℤ (pos 1) ∷ []) is negℤ (pos 1))
+    ∷ (base [] is pos 0)
     ∷ []
 
 -- the whole table, computed
 pub examples : T (allHold table)
-unfolding table allHold _is_ equal single heightOf refinedAt nonzero floor near square cube numerator denominator cell offset weighted along height masked finer finer2 refined slopeNumerator slopeDenominator slopeAlong slopeX slopeY
+unfolding table allHold _is_ equal single heightOf refinedAt nonzero floor near square cube numerator denominator cell offset weighted along height masked finer finer2 refined slopeNumerator slopeDenominator slopeAlong slopeX slopeY total nearMean base
 examples = tt

@@ -1,16 +1,18 @@
--- "The whole fit" of document 01: a survey, its level lattices and residuals, the single lattice, and D, T and V of demand 3. Definitions only.
+-- "The whole fit" of document 01, and the base of document 02's job 4: a survey, its base, its level lattices and residuals, the single lattice, and D, T
+-- and V of demand 3. Definitions only.
 use Prim.Native.Nat.{ℕ, zero, suc, _+_, _*_, _/_, _%_, _^_}
 use mathlib.Core.Bool.{Bool, true, false}
 use mathlib.Core.Option.{Option, none, some}
 use mathlib.Core.List.{List}
-use lib.IntN.{ℤ, pos, _+ℤ_, _-ℤ_, _*ℤ_}
+use lib.IntN.{ℤ, pos, negℤ, _+ℤ_, _-ℤ_, _*ℤ_}
 use lib.ListN.{length, getD}
 use Rattle.algebra.specs.Table.{tabulate}
+use Rattle.rules.specs.Rounding.{near}
 use Rattle.rules.specs.Grid.{cellsAt, unitAt, controls, control, store}
 use Rattle.rules.specs.Surface.{surface, height}
 use Rattle.rules.specs.Level.{Point, fittedAt}
 use Rattle.rules.specs.Refinement.{refined}
-use Rattle.rules.specs.Answers.{Check, require, _then_, firstOf, rangeCheck, quotient, residual, sum}
+use Rattle.rules.specs.Answers.{Check, require, _then_, firstOf, rangeCheck, difference, quotient, residual, sum}
 
 -- "A fit has m0 by n0 coarsest cells, each 1 to 16, and h from 0 to 5"
 pub record Shape : Type 0 where
@@ -56,6 +58,32 @@ pointsOf s = tabulate (pointCount s) (pointAt s)
 abbrev pub valued : Survey → List ℤ → Survey
 valued s values = record { xs = s .xs; ys = s .ys; zs = values }
 
+-- ---- the base, of document 02's job 4: "Subtract a base first: near of the mean height, or 0 with no points"
+
+-- the sum of the first n of these values
+unfoldable pub total : ℕ → List ℤ → ℤ
+total zero values = pos 0
+total (suc n) values = total n values +ℤ getD values n (pos 0)
+
+-- near of the mean of n values whose sum is v
+unfoldable pub nearMean : ℤ → ℕ → ℤ
+nearMean v zero = pos 0
+nearMean v (suc n) = near v (suc n)
+
+unfoldable pub base : List ℤ → ℤ
+base zs = nearMean (total (length zs) zs) (length zs)
+
+-- each of these values with b added
+unfoldable pub shifted : ℤ → List ℤ → List ℤ
+shifted b values = tabulate (length values) (λ i. getD values i (pos 0) +ℤ b)
+
+unfoldable pub differences : List ℤ → List ℤ
+differences zs = shifted (negℤ (base zs)) zs
+
+-- "Fit the differences": the survey that the levels are fitted to
+abbrev pub fromBase : Survey → Survey
+fromBase s = valued s (differences (s .zs))
+
 -- ---- level k of a fit, to a survey whose values are the residuals before it
 
 -- the control value of the level lattice in column i and row j, none where it is refused
@@ -83,7 +111,7 @@ unfoldable pub raised : Shape → ℕ → List ℤ → List ℤ → List ℤ
 raised a k lattice added =
     store (columns a (suc k)) (rows a (suc k)) (λ i j. refined (control (columns a k) lattice) i j +ℤ control (columns a (suc k)) added i j)
 
--- ---- all levels
+-- ---- all levels, to a survey whose values are z
 
 -- the residuals before level k. "Residuals start as z"
 unfoldable pub residuals : Shape → Survey → ℕ → List ℤ
@@ -99,13 +127,15 @@ unfoldable pub running : Shape → Survey → ℕ → List ℤ
 running a s zero = level a s zero
 running a s (suc k) = raised a k (running a s k) (level a s (suc k))
 
--- "The running lattice after level h is the single lattice"
-unfoldable pub singleLattice : Shape → Survey → List ℤ
-singleLattice a s = running a s (a .h)
+-- ---- the results of a fit
 
--- what the levels leave of each z
+-- "The running lattice after level h is the single lattice", and of document 02 "add the base to every control value of the finished lattice"
+unfoldable pub singleLattice : Shape → Survey → List ℤ
+singleLattice a s = shifted (base (s .zs)) (running a (fromBase s) (a .h))
+
+-- what the levels leave of each difference
 unfoldable pub lastResiduals : Shape → Survey → List ℤ
-lastResiduals a s = residuals a s (a .h + 1)
+lastResiduals a s = residuals a (fromBase s) (a .h + 1)
 
 -- ---- "a quotient, then a residual, then a sum out of range in a level"
 
@@ -131,6 +161,20 @@ levelCheck a s k = quotientCheck a s k then residualCheck a s k then sumCheck a 
 unfoldable pub levelsCheck : Shape → Survey → Check
 levelsCheck a s = firstOf (a .h + 1) (levelCheck a s)
 
+-- ---- the checks of a fit whose points are in order
+
+-- 15: "where a difference is out of range, after 6 and before level 0"
+unfoldable pub differenceCheck : List ℤ → Check
+differenceCheck zs = rangeCheck (length zs) (differences zs) difference
+
+-- 14: "a final sum out of range is 14 with level h"
+unfoldable pub finalCheck : Shape → Survey → Check
+finalCheck a s = rangeCheck (controls (columns a (a .h)) (rows a (a .h))) (singleLattice a s) (λ q. sum (a .h))
+
+-- the figures of the levels, and the final sum "after that level's own sums"
+unfoldable pub figuresCheck : Shape → Survey → Check
+figuresCheck a s = levelsCheck a (fromBase s) then finalCheck a s
+
 -- ---- D, T and V of demand 3, "in whole numbers"
 
 -- "let D = 36 × (16 × 2^h)⁶"
@@ -149,6 +193,10 @@ levelSurface a s x y k = pos (64 ^ k) *ℤ surface (unitOf a k) (columns a k) (r
 -- "At a position let T be the exact sum of the level surfaces times D"
 unfoldable pub theT : Shape → Survey → ℕ → ℕ → ℤ
 theT a s x y = sumTo (a .h) (levelSurface a s x y)
+
+-- "The distance promised to the solver is now from the exact level sum plus the base": T of the fit plus base × D
+unfoldable pub theSum : Shape → Survey → ℕ → ℕ → ℤ
+theSum a s x y = theT a (fromBase s) x y +ℤ base (s .zs) *ℤ pos (theD (a .h))
 
 -- "V the exact surface of the lattice that the fit leaves, times D". "The lattice that the fit leaves is read with U = 16 and the cell counts that the
 -- fit returned": m and n. D is 64^h times 36 × 16⁶.

@@ -8,6 +8,7 @@ pub mod Surface
 pub mod Slope
 pub mod TwoScale
 pub mod Fit
+pub mod Base
 pub mod Levels
 pub mod Distance
 pub mod LatticeFile

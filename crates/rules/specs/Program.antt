@@ -5,7 +5,7 @@ use mathlib.Core.Option.{none, some}
 use mathlib.Core.List.{List, [], _∷_, _++_}
 use lib.Dec.{leb, ltb}
 use lib.ListN.{length}
-use Rattle.rules.specs.Fit.{Shape, columns, rows, Survey, singleLattice, levelsCheck}
+use Rattle.rules.specs.Fit.{Shape, columns, rows, Survey, singleLattice, differenceCheck, figuresCheck}
 use Rattle.rules.specs.Answers.{Refusal, number, place, short, Check, require, _then_}
 use Rattle.rules.specs.LatticeFile.{latticeFile}
 use Rattle.rules.specs.PointFile.{fileShape, fileSurvey, pointFileCheck}
@@ -30,7 +30,8 @@ programCheck input =
     require (leb (length input) 7_008) short
     then pointFileCheck input
     then require (leb (columns a (a .h)) 16 && leb (rows a (a .h)) 16) short
-    then levelsCheck a (fileSurvey input)
+    then differenceCheck (fileSurvey input .zs)
+    then figuresCheck a (fileSurvey input)
 
 -- "writes the lattice file, or one line"
 unfoldable pub written : Check → Shape → Survey → List ℕ

@@ -1,14 +1,14 @@
 -- What the levels ask of their arguments, and what stands in the scratch between their steps. With `most` control values at level h, whole
 -- scratch has the running lattice after an even level at 0, after an odd one at `most`, the level lattice at 2 × most and the residuals at 3 × most.
-use Prim.Native.Nat.{ℕ, suc, _+_, _*_, _%_, _^_, _≤_, _<_}
+use Prim.Native.Nat.{ℕ, suc, _+_, _-_, _*_, _%_, _^_, _≤_, _<_}
 use mathlib.Core.Path.{_≡_}
 use mathlib.Core.Option.{none}
 use mathlib.Core.List.{List}
 use native.Mathlib.Nat.{mul-le-mul-right}
 use native.Mathlib.Omega.{arith}
 use lib.IntN.{ℤ}
-use lib.ListN.{length}
-use Rattle.algebra.specs.Table.{area}
+use lib.ListN.{length, take, drop}
+use Rattle.algebra.specs.Table.{area, area-part, length-area}
 use Rattle.rules.specs.Answers.{Check, _then_}
 use Rattle.rules.specs.Grid.{controls}
 use Rattle.rules.specs.Fit.{Shape, columns, rows, unitOf, Survey, pointCount, valued, residuals, level, running, quotientCheck, residualCheck, sumCheck, levelCheck, levelsCheck}
@@ -44,6 +44,11 @@ pub record Celled (a : Shape) (k most m n : ℕ) : Type 0 where
 -- the two areas that running lattices alternate between
 pub area-within : (k most : ℕ) → k % 2 * most ≤ most
 area-within k most = omega (arith, mul-le-mul-right {m = k % 2} {n = 1} most (omega arith))
+
+-- a part that is lent is an area, and is in range where that is
+pub part-ranged : (n k : ℕ) (whole : List ℤ) → n + k ≤ length whole → AllInRange k (area n k whole)
+    → AllInRange (length (take (n + k - n) (drop n whole))) (take (n + k - n) (drop n whole))
+part-ranged n k whole room ranged = rw (area-part n k whole, length-area n k whole room) ranged
 
 -- running lattice k in its area
 pub record RunningThere (a : Shape) (s : Survey) (most k : ℕ) (whole : List ℤ) : Type 0 where
@@ -103,6 +108,7 @@ WholeLevel a s most k = Judged (levelCheck a s k) (Before a s most (suc k))
 -- the last running lattice and the residuals after the last level, in their areas
 pub record Finished (a : Shape) (s : Survey) (most : ℕ) (whole : List ℤ) : Type 0 where
   pub lattice-is : area (a .h % 2 * most) most whole ≡ running a s (a .h)
+  pub lattice-ranged : AllInRange most (running a s (a .h))
   pub residuals-are : area (3 * most) (pointCount s) whole ≡ residuals a s (a .h + 1)
 
 abbrev pub Levelled : Shape → Survey → ℕ → Check → List ℤ → Type 0

@@ -1,17 +1,21 @@
--- `fit::fit` meets its contract: a refusal before the levels is the first check that fails and leaves all as it was; what the levels leave is cleared.
+-- `fit::fit` meets its contract: a refusal before the levels is the first check that fails and leaves all as it was; what `run` leaves is cleared.
 use mathlib.Core.Path.{_≡_, sym, ap, _∙_}
 use mathlib.Core.Option.{none}
 use Prim.Native.Nat.{ℕ, _+_, _*_}
 use native.Mathlib.Omega.{arith}
 use borrow.Author.Needs.{needs}
 use lib.ListN.{length}
+use Rattle.machine.specs.Held.{Held, read}
+use Rattle.rules.specs.Grid.{limit}
 use Rattle.rules.specs.Answers.{Check}
-use Rattle.rules.specs.Fit.{Shape, shape, Survey, survey, pointCount, columns, rows}
+use Rattle.rules.specs.Fit.{Shape, shape, Survey, survey, pointCount, columns, rows, base, differenceCheck}
 use Rattle.rules.specs.Calls.{Lent, lent, surveyCheck, lentCheck, pointsCheck}
+use Rattle.rules.specs.Laws.Base.{base-size}
+use Rattle.rules.specs.Laws.Checks.{AllInRange}
 use Rattle.rules.specs.Laws.Passed.{Surveyed, survey-passed}
 use Rattle.answers.specs.Cause.{check}
 use Rattle.scratch.specs.Scratch.{Celled}
-use Rattle.fit.proofs.Answering.{refused-head, refused-room, refused-points, run-cleared, room-is, Roomy, roomy, finest-celled, most-is, points-is, run-ready}
+use Rattle.fit.proofs.Answering.{refused-head, refused-room, refused-points, refused-difference, run-cleared, heights-ranged, base-told, difference-told, room-is, Roomy, roomy, finest-celled, most-is, points-is, run-ready}
 use Rattle.fit.proofs.fit.Statement.{statement}
 use Rattle.fit.proofs.fit.Tie as tie
 
@@ -66,22 +70,22 @@ module _ (c : tie.After-enum-told2) where
   room-none = found roomed (ap check (c .enum-told2 .given .1))
 
 module _ (c : tie.After-points) where
-  abbrev base : tie.After-cells2
-  base = roomed (c .before) .before
+  abbrev counted : tie.After-cells2
+  counted = roomed (c .before) .before
 
   abbrev lender : tie.After-head
-  lender = first (second base)
+  lender = first (second counted)
 
   -- what `points` found
   points-found : {o : Check} → check (c .points .result) ≡ o → pointsCheck 16 (columns (a lender) (a lender .h)) (rows (a lender) (a lender .h)) (s lender) ≡ o
-  points-found e = sym (points-is (celled base) (s lender)) ∙ sym (c .points .ensures) ∙ e
+  points-found e = sym (points-is (celled counted) (s lender)) ∙ sym (c .points .ensures) ∙ e
 
 module _ (c : tie.After-enum-told3) where
   abbrev third : tie.After-points
   third = c .before .before
 
   abbrev ground : tie.After-cells2
-  ground = base third
+  ground = counted third
 
   abbrev given : tie.Start
   given = start (lender third)
@@ -89,9 +93,25 @@ module _ (c : tie.After-enum-told3) where
   lengths : Roomy (length (given .args .xs .now)) (most ground) (length (given .args .lattice .now)) (length (given .args .residual .now)) (length (given .args .whole .now)) (length (given .args .floats .now))
   lengths = roomy _ _ _ _ _ _ (sym (roomed (third .before) .room .ensures) ∙ ap check (third .before .enum-told2 .given .1))
 
-module _ (c : tie.After-run) where
+  points-none : pointsCheck 16 (columns (a (lender third)) (a (lender third) .h)) (rows (a (lender third)) (a (lender third) .h)) (s (lender third)) ≡ none
+  points-none = points-found third (ap check (c .enum-told3 .given .1))
+
+  ranged : AllInRange (length (given .args .zs .now)) (given .args .zs .now)
+  ranged = heights-ranged (a (lender third)) (s (lender third)) (shown (second ground)) points-none
+
+module _ (c : tie.After-z) where
   abbrev checked : tie.After-enum-told3
-  checked = c .before .before .before .before .before
+  checked = c .before .before .before
+
+  -- what `settle` told of the base
+  near : (differenceCheck (given checked .args .zs .now) ≡ none) × (c .z .given .0 .0 ≡ base (given checked .args .zs .now))
+  near = base-told (given checked .args .zs .now) (c .before .before .settle .ensures) (c .z .given .1)
+
+  base-held : Held (c .z .given .0 .0) (base (given checked .args .zs .now)) limit
+  base-held = record { is = near .1; size = base-size (given checked .args .zs .now) (ranged checked) }
+
+abbrev settled : tie.After-run → tie.After-z
+settled c = c .before .before .before .before .before .before
 
 -- ---- the needs
 
@@ -148,32 +168,50 @@ returns-3 : tie.Need-returns-3
 returns-3 c =
     let q = c .before .before .before in
     let f = lender q in
-    refused-points (a f) (s f) (slices f) (head-none (second (base q))) (room-none (q .before)) (points-found q (ap check (c .before .r3 .given .1)))
+    refused-points (a f) (s f) (slices f) (head-none (second (counted q))) (room-none (q .before)) (points-found q (ap check (c .before .r3 .given .1)))
 
 enum-told-3 : tie.Need-enum-told-3
 enum-told-3 c = search needs
 
+settle-requires : tie.Need-settle-requires
+settle-requires c κs = let w = shown (second (ground c)) in (omega (arith, w .as-many-z, w .points-most), ranged c)
+
+enum-known-z : tie.Need-enum-known-z
+enum-known-z c = search needs
+
+enum-known-r-4 : tie.Need-enum-known-r-4
+enum-known-r-4 c = search needs
+
+returns-4 : tie.Need-returns-4
+returns-4 c =
+    let t = c .before .before .before in
+    let q = t .before in
+    let f = lender (third q) in
+    refused-difference (a f) (s f) (slices f) (head-none (second (ground q))) (room-none (third q .before)) (points-none q)
+    (difference-told (given q .args .zs .now) (t .settle .ensures) (c .before .r4 .given .1))
+
 run-requires : tie.Need-run-requires
 run-requires c κs =
-    let q = c .before .before .before .before in
+    let z = c .before .before .before .before .before in
+    let q = checked z in
     let b = ground q in
     let r = lengths q in
-    (run-ready (celled b) (shown (second b)) (points-found (third q) (ap check (q .enum-told3 .given .1))) r, r .for-lattice, r .for-residual)
+    ((run-ready (celled b) (shown (second b)) (points-none q) (near z .0) r, r .for-lattice, r .for-residual), (read tt (base-held z) .is, ranged q))
 
 mul-clear : tie.Need-mul-clear
-mul-clear c = omega (arith, celled (ground (checked (c .before .before .before .before .before))))
+mul-clear c = omega (arith, celled (ground (checked (settled (c .before .before .before .before .before)))))
 
 add-clear : tie.Need-add-clear
-add-clear c = let b = ground (checked (c .before .before .before .before .before)) in omega (arith, celled b, shown (second b))
+add-clear c = let b = ground (checked (settled (c .before .before .before .before .before))) in omega (arith, celled b, shown (second b))
 
 clear-requires : tie.Need-clear-requires
-clear-requires c κs = let r = c .before .before .before .before .before .before in omega (arith, lengths (checked r), r .run .kept .1 .1 .1 .1 .1 .1 .1 .1 .1 .0)
+clear-requires c κs = let r = c .before .before .before .before .before .before in omega (arith, lengths (checked (settled r)), r .run .kept .1 .1 .1 .1 .1 .1 .1 .1 .1 .1 .0)
 
 mul-clear-2 : tie.Need-mul-clear-2
-mul-clear-2 c = omega (arith, celled (ground (checked (c .before .before .before .before .before .before .before .before))))
+mul-clear-2 c = omega (arith, celled (ground (checked (settled (c .before .before .before .before .before .before .before .before)))))
 
 clear-requires-2 : tie.Need-clear-requires-2
-clear-requires-2 c κs = let r = c .before .before .before .before .before .before .before .before .before in omega (arith, lengths (checked r), r .run .kept .1 .1 .1 .1 .1 .1 .1 .1 .1 .1 .0)
+clear-requires-2 c κs = let r = c .before .before .before .before .before .before .before .before .before in omega (arith, lengths (checked (settled r)), r .run .kept .1 .1 .1 .1 .1 .1 .1 .1 .1 .1 .1 .0)
 
 same-length : tie.Need-same-length
 same-length c = search needs
@@ -187,15 +225,16 @@ same-length-3 c = search needs
 same-length-4 : tie.Need-same-length-4
 same-length-4 c = search needs
 
-returns-4 : tie.Need-returns-4
-returns-4 c =
+returns-5 : tie.Need-returns-5
+returns-5 c =
     let w = c .before .before .before .before .before in
     let r = w .before .before .before .before .before .before .before in
-    let q = checked r in
+    let z = settled r in
+    let q = checked z in
     let f = lender (third q) in
-    let last = r .run .last .1 .1 .1 .1 .1 .1 .1 in
-    run-cleared (a f) (s f) (slices f) (head-none (second (ground q))) (room-none (third q .before)) (lent (last .0) (last .1 .0) (last .1 .1 .0) (last .1 .1 .1 .0))
-    (points-found (third q) (ap check (q .enum-told3 .given .1))) (most-is (celled (ground q))) (r .run .ensures) (w .clear .ensures) (c .before .before .clear2 .ensures)
+    let last = r .run .last .1 .1 .1 .1 .1 .1 .1 .1 in
+    run-cleared (a f) (s f) (slices f) (head-none (second (ground q))) (room-none (third q .before)) (points-none q) (lent (last .0) (last .1 .0) (last .1 .1 .0) (last .1 .1 .1 .0))
+    (near z .0) (most-is (celled (ground q))) (r .run .ensures) (w .clear .ensures) (c .before .before .clear2 .ensures)
 
 pub fit-spec : {M : Type 1} → statement M
 fit-spec =
@@ -218,6 +257,10 @@ fit-spec =
     enum-known-r-3
     returns-3
     enum-told-3
+    settle-requires
+    enum-known-z
+    enum-known-r-4
+    returns-4
     run-requires
     mul-clear
     add-clear
@@ -228,4 +271,4 @@ fit-spec =
     same-length-2
     same-length-3
     same-length-4
-    returns-4)
+    returns-5)

@@ -9,13 +9,13 @@ use native.Mathlib.Numerals.{add-one}
 use native.Mathlib.Nat.{not-suc-le-zero}
 use native.Mathlib.Decide.{decLt}
 use native.Mathlib.Omega.{arith}
-use borrow.Author.Tests.{leb-true, leb-false}
+use borrow.Author.Tests.{leb-true, leb-false, ne-eqb}
 use lib.Dec.{T, leb, eqb, leb→le, le→leb}
 use lib.IntN.{ℤ, pos, natAbs}
 use lib.ListN.{getD}
 use mir.Facts.{and-yes, yes-and}
 use Rattle.rules.specs.Grid.{limit, inRange, within}
-use Rattle.rules.specs.Answers.{Refusal, cells, levels, unit, lists, short, position, range, quotient, residual, sum, size, incomplete, mark, field, trailing, number, inLevels}
+use Rattle.rules.specs.Answers.{Refusal, cells, levels, unit, lists, short, position, range, difference, quotient, residual, sum, size, incomplete, mark, field, trailing, number, inLevels}
 use Rattle.rules.specs.Answers.{Check, require, _then_, firstOf, rangeCheck, Answer, accepted, refused, answer, Outcome, outcome, call}
 
 -- ---- one check
@@ -275,6 +275,7 @@ in-levels lists = refl
 in-levels short = refl
 in-levels (position i) = refl
 in-levels (range i) = refl
+in-levels (difference i) = refl
 in-levels (quotient k) = refl
 in-levels (residual k) = refl
 in-levels (sum k) = refl
@@ -283,6 +284,10 @@ in-levels (incomplete b) = refl
 in-levels (mark b) = refl
 in-levels (field b) = refl
 in-levels (trailing b) = refl
+
+-- and not by one of 1 to 6
+pub early-number : (r : Refusal) → number r ≤ 6 → inLevels r ≡ false
+early-number r l = in-levels r ∙ rw (ne-eqb (number r) 7 (λ e. omega arith), ne-eqb (number r) 13 (λ e. omega arith), ne-eqb (number r) 14 (λ e. omega arith)) refl
 
 -- no refusal has the number of an acceptance
 pub number-some : (r : Refusal) → number r ≡ 0 → ⊥
@@ -293,6 +298,7 @@ number-some lists e = omega arith
 number-some short e = omega arith
 number-some (position i) e = omega arith
 number-some (range i) e = omega arith
+number-some (difference i) e = omega arith
 number-some (quotient k) e = omega arith
 number-some (residual k) e = omega arith
 number-some (sum k) e = omega arith

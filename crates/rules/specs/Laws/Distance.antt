@@ -16,16 +16,17 @@ use Rattle.algebra.specs.Table.{over, getD-over}
 use Rattle.rules.specs.Rounding.{near}
 use Rattle.rules.specs.Grid.{Lattice, cellsAt, unitAt, inside, controls, control}
 use Rattle.rules.specs.Surface.{denominator, surface, height}
-use Rattle.rules.specs.Fit.{Shape, columns, rows, unitOf, Survey, level, raised, running, singleLattice, quotientCheck, residualCheck, sumCheck, levelCheck, levelsCheck}
-use Rattle.rules.specs.Fit.{theD, levelSurface, theT, theV}
+use Rattle.rules.specs.Fit.{Shape, columns, rows, unitOf, Survey, base, fromBase, level, raised, running, singleLattice, finalCheck, figuresCheck}
+use Rattle.rules.specs.Fit.{theD, levelSurface, theT, theSum, theV}
 use Rattle.rules.specs.Answers.{require, answer}
 use Rattle.rules.specs.Calls.{Lent, unitCheck, latticeCheck, heightCheck, heightAnswer, fitCheck, finest, fitCall}
 use Rattle.rules.specs.Demand3.{EqualCase, Close, CloseEverywhere, Demand3}
 use Rattle.rules.specs.Laws.Rounding.{near-exact}
 use Rattle.rules.specs.Laws.Passed.{Sides, sides-pass, level-sides, survey-passed, fit-accepted}
-use Rattle.rules.specs.Laws.Checks.{require-met, then-first, then-rest, then-none, firstOf-none}
+use Rattle.rules.specs.Laws.Checks.{require-met, then-first, then-rest, then-none}
 use Rattle.rules.specs.Laws.Checks.{AllInRange, rangeCheck-size, size-rangeCheck}
-use Rattle.rules.specs.Laws.Surface.{Inside, full, surface-reads, height-distance, control-store, control-over}
+use Rattle.rules.specs.Laws.Surface.{Same, Inside, full, surface-sum, surface-constant, surface-reads, height-distance, control-store, control-over, place-below}
+use Rattle.rules.specs.Laws.Base.{shifted-at, length-single}
 use Rattle.rules.specs.Laws.Fit.{length-running}
 use Rattle.rules.specs.Laws.Levels.{Multiples, Levels, surfaceAt, surfacesTo, full-power, surface-off, surface-equal}
 
@@ -104,20 +105,18 @@ record Shown (a : Shape) (s : Survey) : Type 0 where
   counts : Sides 512 (finest a .m) (finest a .n)
   sums : AllInRange (controls (finest a .m) (finest a .n)) (singleLattice a s)
 
--- wherever in a level the sums are judged
-sums-passed : (a : Shape) (s : Survey) (k : ℕ) → levelCheck a s k ≡ none → sumCheck a s k ≡ none
-unfolding levelCheck
-sums-passed a s k e = search (then-first, then-rest, quotientCheck a s k, residualCheck a s k)
+-- wherever among the checks the final sums are judged
+final-passed : (a : Shape) (s : Survey) (lent : Lent) → fitCheck a s lent ≡ none → finalCheck a s ≡ none
+unfolding fitCheck figuresCheck
+final-passed a s lent e = search (then-first, then-rest)
 
 shown : (a : Shape) (s : Survey) (lent : Lent) → fitCheck a s lent ≡ none → Shown a s
-unfolding fitCheck levelsCheck sumCheck columns rows singleLattice
+unfolding fitCheck finalCheck columns rows
 shown a s lent e =
     let surveyed = survey-passed a s (then-first _ _ e) in
-    let past-points = then-rest _ _ (then-rest _ _ (then-rest _ _ e)) in
-    let last = firstOf-none (a .h + 1) _ past-points (a .h) (omega arith) in
     record {
       counts = level-sides (a .m0) (a .n0) (a .h) (surveyed .sides) (surveyed .levels-most);
-      sums = rangeCheck-size _ _ _ (sums-passed a s (a .h) last);
+      sums = rangeCheck-size _ _ _ (final-passed a s lent e);
     }
 
 -- the positions of its grid
@@ -133,43 +132,70 @@ module _ (a : Shape) (s : Survey) (old : List ℤ) where
   abbrev lattice : List ℤ
   lattice = over (singleLattice a s) old
 
-  single-length : length (singleLattice a s) ≡ controls (finest a .m) (finest a .n)
-  unfolding singleLattice
-  single-length = length-running a s (a .h)
-
   lattice-long : controls (finest a .m) (finest a .n) ≤ length lattice
   unfolding over
-  lattice-long = let r = singleLattice a s in omega (arith, single-length, length-append r (drop (length r) old))
+  lattice-long = let r = singleLattice a s in omega (arith, length-single a s, length-append r (drop (length r) old))
 
   lattice-ranged : Shown a s → AllInRange (controls (finest a .m) (finest a .n)) lattice
-  lattice-ranged shown i l = rw (getD-over (singleLattice a s) old i (pos 0) (rw single-length l)) (shown .sums i l)
+  lattice-ranged shown i l = rw (getD-over (singleLattice a s) old i (pos 0) (rw (length-single a s) l)) (shown .sums i l)
+
+  -- its control values are those of the last running lattice, each with the base
+  lattice-raised : Same (finest a .m) (finest a .n) (control (finest a .m) lattice) (λ i j. runningAt a (fromBase s) (a .h) i j +ℤ base (s .zs))
+  unfolding singleLattice runningAt control
+  lattice-raised =
+      let m = finest a .m in
+      let n = finest a .n in
+      let last = running a (fromBase s) (a .h) in
+      record {
+        same = λ i j h k.
+            control-over m n (singleLattice a s) old (length-single a s) .same i j h k
+            ∙ shifted-at (base (s .zs)) last (j * (m + 3) + i) (rw (length-running a (fromBase s) (a .h)) (place-below m n i j h k));
+      }
 
   module _ (x y : ℕ) (i : Inside 16 (finest a .m) (finest a .n) x y) where
-    -- V is the surface of the last running lattice
-    lattice-surface : theV (a .h) (finest a .m) (finest a .n) lattice x y ≡ surfaceAt (a .m0) (a .n0) x y 16 (a .h) (runningAt a s (a .h))
-    unfolding theV surfaceAt columns rows runningAt singleLattice
+    -- V is the surface of the last running lattice, and the base: masks and numerators keep a constant
+    lattice-surface : theV (a .h) (finest a .m) (finest a .n) lattice x y ≡ surfaceAt (a .m0) (a .n0) x y 16 (a .h) (runningAt a (fromBase s) (a .h)) +ℤ base (s .zs) *ℤ pos (theD (a .h))
+    unfolding theV surfaceAt columns rows
     lattice-surface =
-        let same = control-over (finest a .m) (finest a .n) (singleLattice a s) old single-length in
-        ap (λ z. pos (64 ^ a .h) *ℤ z) (surface-reads 16 (finest a .m) (finest a .n) (i .across) (i .up) _ _ same x y)
+        let m = finest a .m in
+        let n = finest a .n in
+        let last = runningAt a (fromBase s) (a .h) in
+        rw (
+          surface-reads 16 m n (i .across) (i .up) (control m lattice) (λ i j. last i j +ℤ base (s .zs)) lattice-raised x y,
+          surface-sum 16 m n last (λ i j. base (s .zs)) x y,
+          surface-constant 16 m n (base (s .zs)) x y,
+          theD-full (a .h),
+          full-power 16 (a .h),
+        )
+        (parts (pos (64 ^ a .h)) (surface 16 m n last x y) (pos (full 16)) (base (s .zs)))
+      where
+        parts : (P r F b : ℤ) → P *ℤ (r +ℤ F *ℤ b) ≡ P *ℤ r +ℤ b *ℤ (P *ℤ F)
+        parts P r F b = solve (var 0 ⊠ (var 1 ⊞ var 2 ⊠ var 3)) (var 0 ⊠ var 1 ⊞ var 3 ⊠ (var 0 ⊠ var 2)) (P ∷ r ∷ F ∷ b ∷ []) tt
 
-    V-off : natAbs (pos 2 *ℤ (theV (a .h) (finest a .m) (finest a .n) lattice x y -ℤ theT a s x y)) ≤ a .h * theD (a .h)
-    unfolding columns rows
+    V-off : natAbs (pos 2 *ℤ (theV (a .h) (finest a .m) (finest a .n) lattice x y -ℤ theSum a s x y)) ≤ a .h * theD (a .h)
+    unfolding columns rows theSum
     V-off =
-        rw (lattice-surface, theT-levels a s x y, theD-full (a .h))
-        (surface-off (a .m0) (a .n0) x y (levelAt a s) (runningAt a s) (fit-levels a s) 16 (a .h) i)
+        let v = surfaceAt (a .m0) (a .n0) x y 16 (a .h) (runningAt a (fromBase s) (a .h)) in
+        let t = surfacesTo (a .m0) (a .n0) x y 16 (a .h) (levelAt a (fromBase s)) in
+        rw (lattice-surface, theT-levels a (fromBase s) x y, apart v t (base (s .zs) *ℤ pos (theD (a .h))), theD-full (a .h))
+        (surface-off (a .m0) (a .n0) x y (levelAt a (fromBase s)) (runningAt a (fromBase s)) (fit-levels a (fromBase s)) 16 (a .h) i)
+      where
+        apart : (v t b : ℤ) → v +ℤ b -ℤ (t +ℤ b) ≡ v -ℤ t
+        apart v t b = solve (var 0 ⊞ var 2 ⊟ (var 1 ⊞ var 2)) (var 0 ⊟ var 1) (v ∷ t ∷ b ∷ []) tt
 
-    V-equal : EqualCase a s → theV (a .h) (finest a .m) (finest a .n) lattice x y ≡ theT a s x y
-    unfolding columns rows levelAt
+    V-equal : EqualCase a (fromBase s) → theV (a .h) (finest a .m) (finest a .n) lattice x y ≡ theSum a s x y
+    unfolding columns rows levelAt theSum
     V-equal e =
-        rw (lattice-surface, theT-levels a s x y)
-        (surface-equal (a .m0) (a .n0) x y (levelAt a s) (runningAt a s) (fit-levels a s) (a .h) multiples 16 i)
+        rw (lattice-surface, theT-levels a (fromBase s) x y)
+        (ap (λ v. v +ℤ base (s .zs) *ℤ pos (theD (a .h)))
+        (surface-equal (a .m0) (a .n0) x y (levelAt a (fromBase s)) (runningAt a (fromBase s)) (fit-levels a (fromBase s)) (a .h) multiples 16 i))
       where
         -- the factor of a multiple is what near gives
-        multiples : (k : ℕ) → k ≤ a .h → Multiples (64 ^ (a .h - k)) (columns a k) (rows a k) (levelAt a s k)
+        multiples : (k : ℕ) → k ≤ a .h → Multiples (64 ^ (a .h - k)) (columns a k) (rows a k) (levelAt a (fromBase s) k)
         multiples k l =
             let d = 64 ^ (a .h - k) in
             record {
-              factor = λ i j. near (levelAt a s k i j) d;
+              factor = λ i j. near (levelAt a (fromBase s) k i j) d;
               is = record {
                 same = λ i j hi hj.
                     let M = e .multiple k l i j hi hj in
@@ -198,7 +224,7 @@ module _ (a : Shape) (s : Survey) (old : List ℤ) where
         v = theV (a .h) (finest a .m) (finest a .n) lattice x y
 
         t : ℤ
-        t = theT a s x y
+        t = theSum a s x y
 
         parts : (D H v t : ℤ) → pos 2 *ℤ D *ℤ H -ℤ pos 2 *ℤ t ≡ pos 2 *ℤ (D *ℤ H -ℤ v) +ℤ pos 2 *ℤ (v -ℤ t)
         parts D H v t =

@@ -13,10 +13,11 @@ use lib.Pow.{pow-mono}
 use mir.Facts.{and-yes, yes-and}
 use Rattle.algebra.specs.Table.{over}
 use Rattle.rules.specs.Grid.{limit, within, inside, cellsAt, controls}
-use Rattle.rules.specs.Fit.{Shape, Survey, pointCount, pointAt, singleLattice}
-use Rattle.rules.specs.Answers.{Refusal, Check, cells, levels, lists, position, range, accepted, refused}
+use Rattle.rules.specs.Fit.{Shape, Survey, pointCount, pointAt, differences, fromBase, singleLattice, differenceCheck}
+use Rattle.rules.specs.Answers.{Refusal, Check, cells, levels, lists, position, range, difference, accepted, refused}
 use Rattle.rules.specs.Calls.{cellsCheck, hCheck, listsCheck, latticeCheck, pointCheck, pointsCheck, surveyCheck}
 use Rattle.rules.specs.Calls.{CellCounts, Lent, fitCheck, finest, results, cleared, fitEnd, fitCall}
+use Rattle.rules.specs.Laws.Base.{length-differences}
 use Rattle.rules.specs.Laws.Checks.{required, require-met, within-bounds, bounds-within, then-first, then-rest, then-none, firstOf-none, firstOf-all, AllInRange, inRange-size, size-inRange, rangeCheck-size}
 
 -- ---- cell counts
@@ -152,6 +153,28 @@ placed-pass U m n s all =
     let p = pointAt s i in
     let at = yes-and (leb (p .x) (U * m)) (leb (p .y) (U * n)) (le→leb _ _ (all i l .x-inside)) (le→leb _ _ (all i l .y-inside)) in
     then-none _ _ (require-met _ _ at) ∙ require-met _ _ (size-inRange (p .z) (all i l .z-size)))
+
+-- ---- the differences
+
+-- a survey of differences is one
+pub based-surveyed : {a : Shape} {s : Survey} → Surveyed a s → Surveyed a (fromBase s)
+based-surveyed {s = s} w = record {
+  sides = w .sides;
+  levels-most = w .levels-most;
+  as-many-y = w .as-many-y;
+  as-many-z = length-differences (s .zs) ∙ w .as-many-z;
+  points-most = w .points-most;
+}
+
+-- and where 15 refuses nothing its points are in order
+pub based-placed : {a : Shape} {U m n : ℕ} {s : Survey} → Surveyed a s → differenceCheck (s .zs) ≡ none
+    → ((i : ℕ) → i < pointCount s → Placed U m n s i) → (i : ℕ) → i < pointCount s → Placed U m n (fromBase s) i
+unfolding differenceCheck
+based-placed {s = s} w e placed i l = record {
+  x-inside = placed i l .x-inside;
+  y-inside = placed i l .y-inside;
+  z-size = rangeCheck-size (length (s .zs)) (differences (s .zs)) difference e i (rw (w .as-many-z) l);
+}
 
 -- ---- what the answer of a fit tells
 

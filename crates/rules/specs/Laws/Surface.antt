@@ -15,7 +15,7 @@ use Rattle.rules.specs.Grid.{Lattice, limit, controls, control, store}
 use Rattle.rules.specs.Surface.{denominator, along, surface, height}
 use Rattle.rules.specs.Refinement.{finer2, refined}
 use Rattle.rules.specs.Laws.Rounding.{near-distance, near-within}
-use Rattle.rules.specs.Laws.Basis.{along-sum, along-scale, along-off, along-reads, along-bound}
+use Rattle.rules.specs.Laws.Basis.{along-sum, along-scale, along-constant, along-off, along-reads, along-bound}
 use Rattle.rules.specs.Laws.TwoScale.{finer2-size}
 use Rattle.rules.specs.Laws.Checks.{AllInRange}
 
@@ -57,6 +57,13 @@ pub surface-scale : (U m n : ℕ) (c : ℤ) (f : Lattice) (x y : ℕ) → surfac
 unfolding surface
 surface-scale U m n c f x y =
     ap (along U n y) (fun-ext λ t. along-scale U m x c (λ s. f s t)) ∙ along-scale U n y c (λ t. along U m x (λ s. f s t))
+
+-- a lattice of one value is as high as that, everywhere
+pub surface-constant : (U m n : ℕ) (c : ℤ) (x y : ℕ) → surface U m n (λ s t. c) x y ≡ pos (full U) *ℤ c
+unfolding surface full
+surface-constant U m n c x y =
+    let F = pos (denominator U) in
+    ap (along U n y) (fun-ext λ t. along-constant U m x c) ∙ along-constant U n y (F *ℤ c) ∙ solve (var 0 ⊠ (var 0 ⊠ var 1)) (var 0 ⊠ var 0 ⊠ var 1) (F ∷ c ∷ []) tt
 
 -- ---- what surface and height read
 
