@@ -79,7 +79,7 @@ void range_end_case(generator *g, size_class size)
 
     (void)size;
     some_fit_grid(g, &d, SMALL);
-    some_points(g, &d, 1 + below(g, MOST_SHARES));
+    some_points(g, &d, 2 + below(g, MOST_SHARES - 1));         /* one alone is accepted at any height */
     for (at = 0; at < MOST_SHARES; at++)
         share[at] = at == 0 ? 8 : between(g, -8, 8);
     lend_fit(g, &d);

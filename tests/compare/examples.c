@@ -119,7 +119,7 @@ static void residual_before_sum(void)
     expect(&d, RESIDUAL_OUT, 1, 0, 0);
 }
 
-/* Heights a half from their mean: the base is the larger of the two whole numbers next to it, and the differences are as large. */
+/* Heights half a micrometre from their mean: the base is the larger of the two. */
 static void base_examples(void)
 {
     static const uint16_t at[] = { 8, 8 };

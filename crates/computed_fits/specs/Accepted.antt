@@ -1,9 +1,9 @@
--- The fits that documents 01 and 02 name as accepted: a lone point, whose ground is level at its height throughout, from one level computed in f64; and no
--- points, all zero. So there are fits that the rules accept.
+-- The fits that documents 01 and 02 name as accepted: a lone point, whose ground is level at its height throughout; no points, all zero; and between them
+-- document 01's rows of a point of 9, as a hill beside a hollow. Levels are computed in f64. So there are fits that the rules accept.
 use mathlib.Core.Path.{_≡_, refl, ap, ap₂, _∙_}
 use mathlib.Core.Option.{none}
 use mathlib.Core.List.{List, [], _∷_}
-use Prim.Native.Nat.{ℕ, zero, suc, _+_, _*_, _/_, _%_, _≤_, _<_, zero-le}
+use Prim.Native.Nat.{ℕ, zero, suc, _+_, _-_, _*_, _/_, _%_, _≤_, _<_, zero-le}
 use native.Mathlib.Decide.{decLt}
 use native.Mathlib.Numerals.{add-one}
 use native.Mathlib.Omega.{arith}
@@ -19,7 +19,7 @@ use Rattle.rules.specs.Level.{basis, weight, addSquares, squares, noSums, grown
 use Rattle.rules.specs.Refinement.{masked, finer, finer2, refined}
 use Rattle.rules.specs.Fit.{Shape, shape, columns, rows, unitOf, Survey, survey, pointCount, pointsOf, total, nearMean, base, shifted, differences, fromBase}
 use Rattle.rules.specs.Fit.{levelValue, orZero, levelOf, levelHeight, lowered, raised, residuals, level, running, singleLattice, lastResiduals}
-use Rattle.rules.specs.Fit.{present, quotientCheck, residualCheck, sumCheck, levelCheck, levelsCheck, differenceCheck, finalCheck, figuresCheck}
+use Rattle.rules.specs.Fit.{present, quotientCheck, residualCheck, sumCheck, levelCheck, levelsCheck, differenceCheck, finalCheck, inLevelsCheck}
 use Rattle.rules.specs.Answers.{require, _then_, firstOf, rangeCheck, range, accepted, outcome}
 use Rattle.rules.specs.Laws.Rounding.{near-exact}
 use Rattle.rules.specs.Laws.Checks.{require-met, size-inRange, then-none, firstOf-all, size-rangeCheck}
@@ -84,8 +84,8 @@ module _ (z : ℤ) where
     unfolding differenceCheck rangeCheck firstOf require _then_ inRange
     difference-fine = rw lone-difference refl
 
-    figures-fine : figuresCheck one (lone z) ≡ none
-    unfolding figuresCheck finalCheck columns rows cellsAt controls
+    figures-fine : inLevelsCheck one (lone z) ≡ none
+    unfolding inLevelsCheck finalCheck columns rows cellsAt controls
     figures-fine =
         then-none _ _ (ap (λ d. levelsCheck one (survey (0 ∷ []) (0 ∷ []) d)) lone-difference ∙ level-0 .fine)
         ∙ size-rangeCheck 16 _ _ (λ q l. rw (lone-lattice, getD-replicate 16 q z (pos 0) l) size)
@@ -98,6 +98,34 @@ module _ (z : ℤ) where
         (cleared one 1 (record { lattice = over (replicate 16 z) (lent .lattice); residual = over (pos 0 ∷ []) (lent .residual); whole = lent .whole; floats = lent .floats }))
     unfolding fitCall fitEnd fitCheck surveyCheck cellsCheck hCheck listsCheck within columns rows cellsAt require _then_ results
     lone-point lent room = rw (room, points-fine, difference-fine, figures-fine, lone-lattice, lone-residual) refl
+
+-- ---- two points
+
+-- document 01's point (0, 0, 9) as a hill, and a hollow as deep at the far end of three cells, about a base of 100
+abbrev pub hill : Shape
+hill = shape 3 1 0
+
+abbrev pub hollow : Survey
+hollow = survey (0 ∷ 48 ∷ []) (0 ∷ 0 ∷ []) (pos 109 ∷ pos 91 ∷ [])
+
+-- "rows 1 4 1 0, 4 16 4 0, 1 4 1 0, 0 0 0 0", and the same below 0
+abbrev row : ℕ → ℕ → List ℤ → List ℤ
+row a b next = pos (100 + a) ∷ pos (100 + b) ∷ pos (100 + a) ∷ pos (100 - a) ∷ pos (100 - b) ∷ pos (100 - a) ∷ next
+
+pub record Hill : Type 0 where
+  pub lattice : singleLattice hill hollow ≡ row 1 4 (row 4 16 (row 1 4 (row 0 0 [])))
+  pub residual : lastResiduals hill hollow ≡ pos 0 ∷ pos 0 ∷ []
+  pub accepted-levels : inLevelsCheck hill hollow ≡ none
+
+pub hill-and-hollow : Hill
+unfolding singleLattice lastResiduals inLevelsCheck finalCheck shifted differences base nearMean total running levelsCheck levelCheck quotientCheck residualCheck sumCheck rangeCheck lowered levelHeight height along weighted control level levelOf levelValue fittedAt gathered touched uses weight basis squares addSquares grown noSums coefficient settled kept nearFloat signed near floor orZero residuals store controls columns rows unitOf cellsAt unitAt tabulate pointsOf cell offset numerator denominator square cube inRange present require _then_ firstOf lt ofBits add mul div ofInt
+hill-and-hollow = record { lattice = refl; residual = refl; accepted-levels = refl }
+
+-- so its fit is accepted, whatever slices are lent that are long enough
+pub hill-accepted : (lent : Lent) → lentCheck hill 2 lent ≡ none
+    → fitCall hill hollow lent ≡ outcome (accepted (record { m = 3; n = 1 })) (cleared hill 2 (results hill hollow lent))
+unfolding fitCall fitEnd fitCheck surveyCheck cellsCheck hCheck listsCheck pointsCheck pointCheck differenceCheck differences shifted base nearMean total near floor tabulate rangeCheck within inside inRange columns rows cellsAt firstOf require _then_
+hill-accepted lent room = rw (room, hill-and-hollow .accepted-levels) refl
 
 -- ---- no points
 
@@ -179,8 +207,8 @@ module _ (a : Shape) (s : Survey) (surveyed : Surveyed a s) (none-given : pointC
   unfolding differenceCheck rangeCheck firstOf
   differences-fine = rw no-heights refl
 
-  figures-zeros : figuresCheck a s ≡ none
-  unfolding figuresCheck finalCheck
+  figures-zeros : inLevelsCheck a s ≡ none
+  unfolding inLevelsCheck finalCheck
   figures-zeros =
       then-none _ _ (levels-fine a (fromBase s) none-given)
       ∙ size-rangeCheck _ _ _ (λ q l. rw (single-zeros, getD-zeros (K a) q) zero-le)

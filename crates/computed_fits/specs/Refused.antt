@@ -14,12 +14,12 @@ use Rattle.rules.specs.Level.{basis, weight, addSquares, squares, noSums, grown
 use Rattle.rules.specs.Refinement.{masked, finer, finer2, refined}
 use Rattle.rules.specs.Fit.{Shape, shape, columns, rows, unitOf, Survey, survey, pointCount, pointsOf, valued, total, nearMean, base, shifted, differences}
 use Rattle.rules.specs.Fit.{levelValue, orZero, levelOf, levelHeight, lowered, raised, residuals, level, running, singleLattice}
-use Rattle.rules.specs.Fit.{present, quotientCheck, residualCheck, sumCheck, levelCheck, levelsCheck, differenceCheck, finalCheck, figuresCheck}
+use Rattle.rules.specs.Fit.{present, quotientCheck, residualCheck, sumCheck, levelCheck, levelsCheck, differenceCheck, finalCheck, inLevelsCheck}
 use Rattle.rules.specs.Answers.{Refusal, Check, require, _then_, firstOf, rangeCheck, range, difference, quotient, residual, sum, refused, outcome}
 use Rattle.rules.specs.Calls.{Lent, cellsCheck, hCheck, listsCheck, surveyCheck, pointCheck, pointsCheck, lentCheck, fitCheck, cleared, fitEnd, fitCall}
 use Rattle.rules.specs.Laws.Checks.{then-none, then-some}
 use Rattle.rules.specs.Laws.Fit.{first-sums}
-use Rattle.rules.specs.Laws.Refused.{earlyCheck, grouped, figures-only}
+use Rattle.rules.specs.Laws.Refused.{earlyCheck, grouped, in-levels-only}
 use Rattle.computed_fits.specs.Accepted.{one}
 
 -- ---- a difference: "15 with the point's index and every slice left"
@@ -32,7 +32,7 @@ pub difference-refused : (lent : Lent) → lentCheck one 3 lent ≡ none → fit
 unfolding fitCall fitEnd fitCheck surveyCheck cellsCheck hCheck listsCheck pointsCheck pointCheck differenceCheck differences shifted base nearMean total near floor tabulate rangeCheck within inside inRange columns rows cellsAt firstOf require _then_
 difference-refused lent room = rw room refl
 
--- every height is asked before any difference: the last one here is out of range, and the first is as far from the base as before
+-- every height is asked before any difference: the last one here is out of range, and the first is too far from the base as well
 abbrev pub past-range : Survey
 past-range = survey (8 ∷ 8 ∷ 8 ∷ []) (8 ∷ 8 ∷ 8 ∷ []) (pos 4_000_000_000 ∷ negℤ (pos 4_000_000_000) ∷ negℤ (pos 4_000_000_001) ∷ [])
 
@@ -43,15 +43,15 @@ range-refused lent room = rw room refl
 -- ---- in the levels
 
 -- a call whose survey passes every check before the levels, and is refused in them
-refused-call : (a : Shape) (s : Survey) (lent : Lent) (r : Refusal) → earlyCheck a s lent ≡ none → figuresCheck a s ≡ some r
+refused-call : (a : Shape) (s : Survey) (lent : Lent) (r : Refusal) → earlyCheck a s lent ≡ none → inLevelsCheck a s ≡ some r
     → fitCall a s lent ≡ outcome (refused r) (cleared a (pointCount s) lent)
 unfolding fitCall fitEnd _then_
-refused-call a s lent r early e = rw (grouped a s lent, early, e, figures-only a s .only r e) refl
+refused-call a s lent r early e = rw (grouped a s lent, early, e, in-levels-only a s .only r e) refl
 
 -- its levels refuse the differences d
-in-levels : (a : Shape) (s : Survey) (d : List ℤ) {r : Refusal} → differences (s .zs) ≡ d → levelsCheck a (valued s d) ≡ some r → figuresCheck a s ≡ some r
-unfolding figuresCheck
-in-levels a s d is e = then-some _ _ (ap (λ d. levelsCheck a (valued s d)) is ∙ e)
+levels-refuse : (a : Shape) (s : Survey) (d : List ℤ) {r : Refusal} → differences (s .zs) ≡ d → levelsCheck a (valued s d) ≡ some r → inLevelsCheck a s ≡ some r
+unfolding inLevelsCheck
+levels-refuse a s d is e = then-some _ _ (ap (λ d. levelsCheck a (valued s d)) is ∙ e)
 
 -- ---- a quotient
 
@@ -70,7 +70,7 @@ corner-levels = record { from-base = refl; too-steep = refl }
 pub quotient-refused : (lent : Lent) → lentCheck one 2 lent ≡ none → fitCall one corners lent ≡ outcome (refused (quotient 0)) (cleared one 2 lent)
 unfolding differenceCheck rangeCheck surveyCheck cellsCheck hCheck listsCheck pointsCheck pointCheck within inside inRange columns rows cellsAt firstOf require _then_
 quotient-refused lent room =
-    refused-call one corners lent (quotient 0) (rw (room, corner-levels .from-base) refl) (in-levels one corners _ (corner-levels .from-base) (corner-levels .too-steep))
+    refused-call one corners lent (quotient 0) (rw (room, corner-levels .from-base) refl) (levels-refuse one corners _ (corner-levels .from-base) (corner-levels .too-steep))
 
 -- ---- a residual
 
@@ -92,7 +92,7 @@ pit-levels = record { from-base = refl; too-deep = refl }
 pub residual-refused : (lent : Lent) → lentCheck one 3 lent ≡ none → fitCall one pit lent ≡ outcome (refused (residual 0)) (cleared one 3 lent)
 unfolding differenceCheck rangeCheck surveyCheck cellsCheck hCheck listsCheck pointsCheck pointCheck within inside inRange columns rows cellsAt firstOf require _then_
 residual-refused lent room =
-    refused-call one pit lent (residual 0) (rw (room, pit-levels .from-base) refl) (in-levels one pit _ (pit-levels .from-base) (pit-levels .too-deep))
+    refused-call one pit lent (residual 0) (rw (room, pit-levels .from-base) refl) (levels-refuse one pit _ (pit-levels .from-base) (pit-levels .too-deep))
 
 -- ---- a sum of a level
 
@@ -158,9 +158,9 @@ with-base = refl
 pub sum-refused : (lent : Lent) → lentCheck two 2 lent ≡ none → fitCall two steep lent ≡ outcome (refused (sum 1)) (cleared two 2 lent)
 unfolding differenceCheck rangeCheck surveyCheck cellsCheck hCheck listsCheck pointsCheck pointCheck within inside inRange columns rows cellsAt firstOf require _then_
 sum-refused lent room =
-    refused-call two steep lent (sum 1) (rw (room, steep-differences) refl) (in-levels two steep _ steep-differences (sum-out _ _ steep-levels))
+    refused-call two steep lent (sum 1) (rw (room, steep-differences) refl) (levels-refuse two steep _ steep-differences (sum-out _ _ steep-levels))
 
--- ---- a final sum: "14 can now happen at level 0"
+-- ---- a final sum, in level 0
 
 -- two corners, 1,000 metres above and below their base of 3,000
 abbrev pub crest : Survey
@@ -179,8 +179,8 @@ crest-levels : Crest
 unfolding differences shifted base nearMean total running levelsCheck levelCheck quotientCheck residualCheck sumCheck rangeCheck lowered levelHeight height along weighted control level levelOf levelValue fittedAt gathered touched uses weight basis squares addSquares grown noSums coefficient settled kept nearFloat signed near floor orZero residuals store controls columns rows unitOf cellsAt unitAt tabulate pointsOf cell offset numerator denominator square cube inRange present require _then_ firstOf lt ofBits add mul div ofInt
 crest-levels = record { from-base = refl; levels-fine = refl; base-is = refl; too-high = refl }
 
-crest-figures : figuresCheck one crest ≡ some (sum 0)
-unfolding figuresCheck finalCheck singleLattice columns rows cellsAt controls
+crest-figures : inLevelsCheck one crest ≡ some (sum 0)
+unfolding inLevelsCheck finalCheck singleLattice columns rows cellsAt controls
 crest-figures = rw (crest-levels .from-base, crest-levels .base-is) (then-none _ _ (crest-levels .levels-fine) ∙ crest-levels .too-high)
 
 pub final-refused : (lent : Lent) → lentCheck one 2 lent ≡ none → fitCall one crest lent ≡ outcome (refused (sum 0)) (cleared one 2 lent)

@@ -13,11 +13,11 @@ use mir.Facts.{and-yes}
 use Rattle.algebra.specs.Table.{over}
 use Rattle.rules.specs.Grid.{cellsAt, controls}
 use Rattle.rules.specs.Level.{zero64}
-use Rattle.rules.specs.Fit.{Shape, columns, rows, Survey, pointCount, base, fromBase, differenceCheck, figuresCheck}
-use Rattle.rules.specs.Answers.{Refusal, short, _then_, Answer, refused, answer, outcome}
+use Rattle.rules.specs.Fit.{Shape, columns, rows, Survey, pointCount, base, fromBase, differenceCheck, inLevelsCheck}
+use Rattle.rules.specs.Answers.{Refusal, short, Check, _then_, Answer, refused, answer, outcome}
 use Rattle.rules.specs.Calls.{CellCounts, Lent, lent, K, surveyCheck, roomCheck, lentCheck, pointsCheck, cleared, fitEnd, fitCall}
 use Rattle.rules.specs.Demand3.{Demand3}
-use Rattle.rules.specs.Laws.Checks.{required, AllInRange, answer-none, answer-value, answer-refused}
+use Rattle.rules.specs.Laws.Checks.{required, then-first, then-rest, AllInRange, answer-none, answer-value, answer-refused}
 use Rattle.rules.specs.Laws.Passed.{Sides, Surveyed, level-sides, points-passed, based-surveyed, based-placed, controls-fit}
 use Rattle.rules.specs.Laws.Refused.{earlyCheck, grouped, early-only}
 use Rattle.rules.specs.Laws.Distance.{demand3}
@@ -29,6 +29,10 @@ use Rattle.base.specs.declared.BaseTold.the-variants.{Base, Refused}
 use Rattle.scratch.specs.Scratch.{Levelable, Celled}
 
 -- ---- the fit
+
+-- what is checked of the points: 5 and 6, and then 15
+abbrev pub pointed : Shape → Survey → Check
+pointed a s = pointsCheck 16 (columns a (a .h)) (rows a (a .h)) s then differenceCheck (s .zs)
 
 module _ (a : Shape) (s : Survey) (l : Lent) where
   -- what the contract says of an answer and the four slices
@@ -52,23 +56,18 @@ module _ (a : Shape) (s : Survey) (l : Lent) where
     refused-room e = refused-early (rw (head, e))
 
     module _ (room : lentCheck a (pointCount s) l ≡ none) where
-      pub refused-points : {r : Refusal} → pointsCheck 16 (columns a (a .h)) (rows a (a .h)) s ≡ some r → Promised (refused r) l
+      pub refused-points : {r : Refusal} → pointed a s ≡ some r → Promised (refused r) l
       unfolding _then_
       refused-points e = refused-early (rw (head, room, e))
 
-      module _ (points : pointsCheck 16 (columns a (a .h)) (rows a (a .h)) s ≡ none) where
-        pub refused-difference : {r : Refusal} → differenceCheck (s .zs) ≡ some r → Promised (refused r) l
-        unfolding _then_
-        refused-difference e = refused-early (rw (head, room, points, e))
-
-        -- what `run` leaves is cleared
-        pub run-cleared : {t : Answer CellCounts} {most : ℕ} (n : Lent) {whole : List ℤ} {floats : List Float} → differenceCheck (s .zs) ≡ none → most ≡ K a
-            → outcome t (cleared a (pointCount s) n) ≡ fitEnd a s l (figuresCheck a s)
-            → whole ≡ over (replicate (3 * most + pointCount s) (pos 0)) (n .whole) → floats ≡ over (replicate (2 * most) zero64) (n .floats)
-            → Promised t (lent (n .lattice) (n .residual) whole floats)
-        unfolding fitCall cleared _then_
-        run-cleared {t} {most} n near most-is ends w f =
-            promised (rw (grouped a s l, head, room, points, near, w, f, most-is) ends)
+      -- what `run` leaves is cleared
+      pub run-cleared : {t : Answer CellCounts} {most : ℕ} (n : Lent) {whole : List ℤ} {floats : List Float} → pointed a s ≡ none → most ≡ K a
+          → outcome t (cleared a (pointCount s) n) ≡ fitEnd a s l (inLevelsCheck a s)
+          → whole ≡ over (replicate (3 * most + pointCount s) (pos 0)) (n .whole) → floats ≡ over (replicate (2 * most) zero64) (n .floats)
+          → Promised t (lent (n .lattice) (n .residual) whole floats)
+      unfolding fitCall cleared _then_
+      run-cleared {t} {most} n points most-is ends w f =
+          promised (rw (grouped a s l, head, room, points, w, f, most-is) ends)
 
 -- ---- what the checks before the levels have shown
 
@@ -105,31 +104,32 @@ finest-celled {a = a} {m = m} {n = n} shown m-is n-is =
     let sides : Sides 512 m n = rw (m-is, n-is) (level-sides (a .m0) (a .n0) (a .h) (shown .sides) (shown .levels-most)) in
     record { m-is = m-is; n-is = n-is; sides = sides; count = omega arith; most-fits = controls-fit m n (sides .1) (sides .3) }
 
--- the heights are in range
-pub heights-ranged : (a : Shape) (s : Survey) → Surveyed a s → pointsCheck 16 (columns a (a .h)) (rows a (a .h)) s ≡ none → AllInRange (length (s .zs)) (s .zs)
-heights-ranged a s shown e i l = points-passed 16 (columns a (a .h)) (rows a (a .h)) s e i (rw (← shown .as-many-z) l) .z-size
+-- heights of points that are in order are in range
+pub heights-ranged : (m n : ℕ) (s : Survey) → length (s .zs) ≡ pointCount s → pointsCheck 16 m n s ≡ none → AllInRange (length (s .zs)) (s .zs)
+heights-ranged m n s many e i l = points-passed 16 m n s e i (rw (← many) l) .z-size
 
--- what `settle` told
-pub base-told : (zs : List ℤ) {t : BaseTold} {b : ℤ} → told t ≡ answer (differenceCheck zs) (base zs) → t ≡ Base b → (differenceCheck zs ≡ none) × (b ≡ base zs)
-base-told zs {b = b} e is = let known = sym e ∙ ap told is in (answer-none _ _ _ known, sym (answer-value _ _ _ known))
+-- what heights tell of their base, behind a check c
+module _ (c : Check) (zs : List ℤ) {t : BaseTold} (told-is : told t ≡ answer c (base zs)) where
+  pub base-told : {b : ℤ} → t ≡ Base b → (c ≡ none) × (b ≡ base zs)
+  base-told is = let known = sym told-is ∙ ap told is in (answer-none _ _ _ known, sym (answer-value _ _ _ known))
 
-pub difference-told : (zs : List ℤ) {t : BaseTold} {r : coded.Refusal} → told t ≡ answer (differenceCheck zs) (base zs) → t ≡ Refused r → differenceCheck zs ≡ some (cause r)
-difference-told zs e is = answer-refused _ _ _ (sym e ∙ ap told is)
+  pub base-refused : {r : coded.Refusal} → t ≡ Refused r → c ≡ some (cause r)
+  base-refused is = answer-refused _ _ _ (sym told-is ∙ ap told is)
 
 module _ {a : Shape} {m n : ℕ} (z : Celled a (a .h) ((m + 3) * (n + 3)) m n) where
   pub most-is : (m + 3) * (n + 3) ≡ K a
   unfolding K controls
   most-is = rw (z .m-is, z .n-is)
 
-  -- `points` finds what the rules' check of the points does
-  pub points-is : (s : Survey) → pointsCheck 16 m n s ≡ pointsCheck 16 (columns a (a .h)) (rows a (a .h)) s
+  -- the code's check of the points is that of the rules
+  pub points-is : (s : Survey) → (pointsCheck 16 m n s then differenceCheck (s .zs)) ≡ pointed a s
   points-is s = rw (z .m-is, z .n-is)
 
-  pub run-ready : {s : Survey} {lattice residual whole floats : ℕ} → Surveyed a s → pointsCheck 16 (columns a (a .h)) (rows a (a .h)) s ≡ none → differenceCheck (s .zs) ≡ none
+  pub run-ready : {s : Survey} {lattice residual whole floats : ℕ} → Surveyed a s → pointed a s ≡ none
       → Roomy (pointCount s) ((m + 3) * (n + 3)) lattice residual whole floats → Levelable a (fromBase s) ((m + 3) * (n + 3)) whole floats
-  run-ready {s = s} shown e near r = record {
+  run-ready {s = s} shown e r = record {
     surveyed = based-surveyed shown;
-    placed = based-placed shown near (points-passed 16 (columns a (a .h)) (rows a (a .h)) s e);
+    placed = based-placed shown (then-rest _ _ e) (points-passed 16 (columns a (a .h)) (rows a (a .h)) s (then-first _ _ e));
     most-is = most-is;
     most-fits = z .most-fits;
     whole-room = r .for-whole;

@@ -1,14 +1,28 @@
 // The whole fit: from points to one lattice, behind the checks of documents 01 and 02, in slices that the caller lends.
 // Lattice and residuals are written once, at the end, so that a refusal leaves them as they were; then the scratch is cleared.
 ghost use mathlib.Core.Path.{_≡_};
-ghost use Rattle.rules.specs.Answers.{outcome};
-ghost use Rattle.rules.specs.Fit.{shape, survey};
-ghost use Rattle.rules.specs.Calls.{lent, fitCall};
+ghost use Prim.Native.Nat.{_≤_};
+ghost use lib.ListN.{length};
+ghost use Rattle.rules.specs.Answers.{_then_, answer, outcome};
+ghost use Rattle.rules.specs.Fit.{shape, survey, base, differenceCheck};
+ghost use Rattle.rules.specs.Calls.{lent, pointsCheck, fitCall};
 ghost use Rattle.rules.specs.Demand3.{Demand3};
 ghost use Rattle.answers.specs.CellsTold.{told};
+ghost use Rattle.base.specs.Told.{told as base-told};
 use answers::CellsTold;
 use answers::Verdict;
 use base::BaseTold;
+
+// 5 and 6 point by point, then 15, and the base of points that are in order.
+fn base_of(m: usize, n: usize, xs: &[u16], ys: &[u16], zs: &[i64]) -> BaseTold
+    requires { ⌜ (m ≤ 512) × (n ≤ 512) × (length (now ys) ≡ length (now xs)) × (length (now zs) ≡ length (now xs)) × (length (now xs) ≤ 65_535) ⌝ }
+    ensures { λ r. ⌜ base-told r ≡ answer (pointsCheck 16 m n (survey (now (xs .entry)) (now (ys .entry)) (now (zs .entry))) then differenceCheck (now (zs .entry))) (base (now (zs .entry))) ⌝ }
+{
+    if let Verdict::Refused(r) = point_checks::points(m, n, xs, ys, zs) {
+        return BaseTold::Refused(r);
+    }
+    base::settle(zs)
+}
 
 // A fit, behind its checks in their order. After them the scratch is used, and cleared whatever the levels answer.
 pub fn fit(
@@ -43,14 +57,9 @@ pub fn fit(
     ) {
         return CellsTold::Refused(r);
     }
-    if let Verdict::Refused(r) = point_checks::points(m, n, xs, ys, zs) {
-        return CellsTold::Refused(r);
-    }
-    let base = match base::settle(zs) {
+    let base = match base_of(m, n, xs, ys, zs) {
         BaseTold::Base(z) => z,
-        BaseTold::Refused(r) => {
-            return CellsTold::Refused(r);
-        }
+        BaseTold::Refused(r) => return CellsTold::Refused(r),
     };
     let answer = fitting::run(
         m0,

@@ -11,12 +11,12 @@ use lib.ListN.{length, take, drop, replicate, length-take, length-drop, length-r
 use Rattle.algebra.specs.Table.{Free, over, laid, area, length-area, area-part, laid-part, area-laid, over-past, free-length, free-drop}
 use Rattle.rules.specs.Grid.{cellsAt}
 use Rattle.rules.specs.Level.{zero64}
-use Rattle.rules.specs.Fit.{Shape, columns, rows, Survey, survey, base, shifted, differences, fromBase, singleLattice, lastResiduals, finalCheck, figuresCheck}
+use Rattle.rules.specs.Fit.{Shape, columns, rows, Survey, survey, base, shifted, differences, fromBase, singleLattice, lastResiduals, finalCheck, inLevelsCheck}
 use Rattle.rules.specs.Answers.{Refusal, sum, Check, rangeCheck, accepted, refused, outcome}
 use Rattle.rules.specs.Calls.{lent, K, results, cleared, fitEnd}
 use Rattle.rules.specs.Laws.Base.{length-differences}
 use Rattle.rules.specs.Laws.Checks.{AllInRange, then-none, then-some}
-use Rattle.rules.specs.Laws.Refused.{figures-only}
+use Rattle.rules.specs.Laws.Refused.{in-levels-only}
 use Rattle.answers.specs.Cause.{okCheck}
 use Rattle.lowering.specs.Lowered.{surveyAt}
 use Rattle.scratch.specs.Scratch.{Levelable, Levelled, area-within}
@@ -103,14 +103,14 @@ module _ {a : Shape} {xs ys : List ℕ} {most F : ℕ} (zs whole : List ℤ) (p 
           (over-past (replicate (3 * K a + many) (pos 0)) now whole (rw (length-replicate (3 * K a + many) (pos 0)) past))
           (over-past (replicate (2 * K a) zero64) sums floats (rw (length-replicate (2 * K a) zero64) floats-past))
 
-      refused-with : {r : Refusal} → figuresCheck a s ≡ some r
-          → outcome (refused r) (cleared a many (lent lattice residual now sums)) ≡ fitEnd a s (lent lattice residual whole floats) (figuresCheck a s)
+      refused-with : {r : Refusal} → inLevelsCheck a s ≡ some r
+          → outcome (refused r) (cleared a many (lent lattice residual now sums)) ≡ fitEnd a s (lent lattice residual whole floats) (inLevelsCheck a s)
       unfolding fitEnd
-      refused-with {r} e = rw (e, figures-only a s .only r e, scratch-cleared lattice residual)
+      refused-with {r} e = rw (e, in-levels-only a s .only r e, scratch-cleared lattice residual)
 
       pub run-refused : {r : Refusal} → found ≡ some r
-          → outcome (refused r) (cleared a many (lent lattice residual now sums)) ≡ fitEnd a s (lent lattice residual whole floats) (figuresCheck a s)
-      unfolding figuresCheck
+          → outcome (refused r) (cleared a many (lent lattice residual now sums)) ≡ fitEnd a s (lent lattice residual whole floats) (inLevelsCheck a s)
+      unfolding inLevelsCheck
       run-refused e = refused-with (then-some _ _ (sym (done .is) ∙ e))
 
       -- ---- and the base in its lattice
@@ -121,8 +121,8 @@ module _ {a : Shape} {xs ys : List ℕ} {most F : ℕ} (zs whole : List ℤ) (p 
         unfolding singleLattice
         final-lattice = ap₂ shifted b-is (done .leaves fine .lattice-is)
 
-        found-final : figuresCheck a s ≡ okCheck ok (sum (a .h))
-        unfolding figuresCheck finalCheck K
+        found-final : inLevelsCheck a s ≡ okCheck ok (sum (a .h))
+        unfolding inLevelsCheck finalCheck K
         found-final =
             let part = area-part at most now in
             let long = ap length part ∙ length-area at most now lattice-room ∙ p .most-is in
@@ -131,15 +131,15 @@ module _ {a : Shape} {xs ys : List ℕ} {most F : ℕ} (zs whole : List ℤ) (p 
             ∙ judged (sum (a .h))
 
         pub final-refused : ok ≡ false
-            → outcome (refused (sum (a .h))) (cleared a many (lent lattice residual now sums)) ≡ fitEnd a s (lent lattice residual whole floats) (figuresCheck a s)
+            → outcome (refused (sum (a .h))) (cleared a many (lent lattice residual now sums)) ≡ fitEnd a s (lent lattice residual whole floats) (inLevelsCheck a s)
         final-refused e = refused-with (found-final ∙ ap (λ ok. okCheck ok (sum (a .h))) e)
 
         pub run-accepted : {m n : ℕ} {l r : List ℤ} → ok ≡ true → m ≡ cellsAt (a .m0) (a .h) → n ≡ cellsAt (a .n0) (a .h)
             → l ≡ over (shifted b (area at most now)) lattice → r ≡ over (area (3 * most) many now) residual
-            → outcome (accepted (record { m = m; n = n })) (cleared a many (lent l r now sums)) ≡ fitEnd a s (lent lattice residual whole floats) (figuresCheck a s)
+            → outcome (accepted (record { m = m; n = n })) (cleared a many (lent l r now sums)) ≡ fitEnd a s (lent lattice residual whole floats) (inLevelsCheck a s)
         unfolding fitEnd results lastResiduals columns rows
         run-accepted {l = l} {r = r} e m-is n-is l-is r-is =
-            let passed : figuresCheck a s ≡ none = found-final ∙ ap (λ ok. okCheck ok (sum (a .h))) e in
+            let passed : inLevelsCheck a s ≡ none = found-final ∙ ap (λ ok. okCheck ok (sum (a .h))) e in
             let lattice-is : l ≡ over (singleLattice a s) lattice = l-is ∙ ap (λ v. over v lattice) final-lattice in
             let residual-is : r ≡ over (lastResiduals a s) residual = r-is ∙ ap (λ v. over v residual) (done .leaves fine .residuals-are) in
             rw (passed, m-is, n-is, scratch-cleared l r, lattice-is, residual-is)

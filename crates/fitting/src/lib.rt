@@ -4,7 +4,7 @@ ghost use mathlib.Core.Path.{_≡_};
 ghost use Prim.Native.Nat.{_≤_};
 ghost use lib.ListN.{length};
 ghost use Rattle.rules.specs.Answers.{outcome};
-ghost use Rattle.rules.specs.Fit.{shape, survey, base as base-of, fromBase, figuresCheck};
+ghost use Rattle.rules.specs.Fit.{shape, survey, base as base-of, fromBase, inLevelsCheck};
 ghost use Rattle.rules.specs.Laws.Checks.{AllInRange};
 ghost use Rattle.rules.specs.Calls.{lent, cleared, fitEnd};
 ghost use Rattle.scratch.specs.Scratch.{Levelable};
@@ -31,7 +31,7 @@ pub fn run(
 ) -> CellsTold
     requires { ⌜ Levelable (shape m0 n0 h) (fromBase (survey (now xs) (now ys) (now zs))) most (length (now whole)) (length (now floats)) × (most ≤ length (now lattice)) × (length (now xs) ≤ length (now residual)) ⌝ }
     requires { ⌜ (base ≡ base-of (now zs)) × AllInRange (length (now zs)) (now zs) ⌝ }
-    ensures { λ r. ⌜ outcome (told r) (cleared (shape m0 n0 h) (length (now (xs .entry))) (lent (now (lattice .exit)) (now (residual .exit)) (now (whole .exit)) (now (floats .exit)))) ≡ fitEnd (shape m0 n0 h) (survey (now (xs .entry)) (now (ys .entry)) (now (zs .entry))) (lent (now (lattice .entry)) (now (residual .entry)) (now (whole .entry)) (now (floats .entry))) (figuresCheck (shape m0 n0 h) (survey (now (xs .entry)) (now (ys .entry)) (now (zs .entry)))) ⌝ }
+    ensures { λ r. ⌜ outcome (told r) (cleared (shape m0 n0 h) (length (now (xs .entry))) (lent (now (lattice .exit)) (now (residual .exit)) (now (whole .exit)) (now (floats .exit)))) ≡ fitEnd (shape m0 n0 h) (survey (now (xs .entry)) (now (ys .entry)) (now (zs .entry))) (lent (now (lattice .entry)) (now (residual .entry)) (now (whole .entry)) (now (floats .entry))) (inLevelsCheck (shape m0 n0 h) (survey (now (xs .entry)) (now (ys .entry)) (now (zs .entry)))) ⌝ }
 {
     let residuals = 3 * most;
     let end = residuals + xs.len();

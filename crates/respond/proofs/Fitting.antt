@@ -10,7 +10,7 @@ use lib.IntN.{ℤ}
 use lib.ListN.{length}
 use Rattle.algebra.specs.Table.{over, joined-same}
 use Rattle.rules.specs.Grid.{controls, control}
-use Rattle.rules.specs.Fit.{Shape, columns, rows, Survey, pointCount, singleLattice, differenceCheck, figuresCheck}
+use Rattle.rules.specs.Fit.{Shape, columns, rows, Survey, pointCount, singleLattice, differenceCheck, inLevelsCheck}
 use Rattle.rules.specs.Answers.{Refusal, require, _then_, Answer, accepted, refused, Outcome, outcome}
 use Rattle.rules.specs.Calls.{CellCounts, Lent, K, roomCheck, lentCheck, fitCheck, fitCall}
 use Rattle.rules.specs.Bytes.{bytesOf, valueBytes}
@@ -63,7 +63,7 @@ module _ {a : Shape} {s : Survey} (t : Taken a s) (w : Lent) (lattice : 361 ≡ 
       (le-leb (K a) (length (w .lattice)) (omega arith), le-leb p (length (w .residual)) (omega arith), le-leb (3 * K a + p) (length (w .whole)) (omega arith), le-leb (2 * K a) (length (w .floats)) (omega arith))
       refl
 
-  fit-is : fitCheck a s w ≡ (differenceCheck (s .zs) then figuresCheck a s)
+  fit-is : fitCheck a s w ≡ (differenceCheck (s .zs) then inLevelsCheck a s)
   unfolding fitCheck
   fit-is =
       then-none _ _ (surveyed-passes a s (t .writable .surveyed))

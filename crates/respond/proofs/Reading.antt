@@ -11,7 +11,7 @@ use lib.ListN.{length, take}
 use lib.Seq.{take-at}
 use mir.Facts.{and-yes}
 use Rattle.algebra.specs.Table.{tabulate, over, length-tabulate}
-use Rattle.rules.specs.Fit.{Shape, columns, rows, Survey, survey, pointCount, differenceCheck, figuresCheck}
+use Rattle.rules.specs.Fit.{Shape, columns, rows, Survey, survey, pointCount, differenceCheck, inLevelsCheck}
 use Rattle.rules.specs.Answers.{Refusal, Check, require, _then_, short, Answer, accepted, refused, outcome}
 use Rattle.rules.specs.PointFile.{Header, pointStart, fileShape, filePoints, fileX, fileY, fileZ, fileSurvey, pointFileCheck, readPointsCheck, overLists, readPointsCall}
 use Rattle.rules.specs.Program.{refusedLine, programCheck, written, programOutput}
@@ -43,7 +43,7 @@ module _ (file : List ℕ) where
   too-long h = rw (lt-leb (length file) 7_008 h) refl
 
   module _ (h : length file ≤ 7_008) where
-    check-is : programCheck file ≡ (pointFileCheck file then require (few (fileShape file)) short then differenceCheck (fileSurvey file .zs) then figuresCheck (fileShape file) (fileSurvey file))
+    check-is : programCheck file ≡ (pointFileCheck file then require (few (fileShape file)) short then differenceCheck (fileSurvey file .zs) then inLevelsCheck (fileShape file) (fileSurvey file))
     unfolding programCheck
     check-is = then-none _ _ (require-met _ _ (le→leb (length file) 7_008 h))
 

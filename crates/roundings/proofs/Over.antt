@@ -14,8 +14,8 @@ denominator-power : (e : ℕ) → denominator (2 ^ e) ≡ 2 * (3 * 2 ^ (3 * e))
 unfolding denominator
 denominator-power e = rw (cubed e) (omega arith)
 
-pub near-shift : (v : ℤ) (e : ℕ) → floor (floor (v +ℤ pos (3 * 2 ^ (3 * e))) (2 ^ (3 * e + 1))) 3 ≡ near v (denominator (2 ^ e))
-near-shift v e =
+pub over-thirds : (v : ℤ) (e : ℕ) → floor (floor (v +ℤ pos (3 * 2 ^ (3 * e))) (2 ^ (3 * e + 1))) 3 ≡ near v (denominator (2 ^ e))
+over-thirds v e =
     let q = 2 ^ (3 * e) in
     let twice : 2 ^ (3 * e + 1) * 3 ≡ 2 * (3 * q) = ap (λ k. k * 3) (pow-add 2 (3 * e) 1) ∙ omega arith in
     floor-floor (v +ℤ pos (3 * q)) (2 ^ (3 * e + 1)) 3

@@ -24,7 +24,7 @@ fn third(v: i64) -> i64
     ((v + 3_458_764_513_820_540_928) as u64 / 3) as i64 - 1_152_921_504_606_846_976
 }
 
-// floor(v / 3), by a test of the sign
+// floor(v / 3), by a test of the sign, which the compiler would make a choice without one of floor_over(v, 3)
 fn third_tested(v: i64) -> i64
     requires { ⌜ natAbs v ≤ 4_611_686_018_427_387_904 ⌝ }
     ensures { λ r. ⌜ r ≡ floor v 3 ⌝ }

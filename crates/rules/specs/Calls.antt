@@ -14,7 +14,7 @@ use Rattle.rules.specs.Surface.{height}
 use Rattle.rules.specs.Slope.{slopeX, slopeY}
 use Rattle.rules.specs.Level.{Point, zero64}
 use Rattle.rules.specs.Refinement.{refined}
-use Rattle.rules.specs.Fit.{Shape, columns, rows, Survey, pointCount, pointAt, singleLattice, lastResiduals, differenceCheck, figuresCheck}
+use Rattle.rules.specs.Fit.{Shape, columns, rows, Survey, pointCount, pointAt, singleLattice, lastResiduals, differenceCheck, inLevelsCheck}
 use Rattle.rules.specs.Answers.{cells, levels, unit, lists, short, position, range, size, inLevels}
 use Rattle.rules.specs.Answers.{Check, require, _then_, firstOf, rangeCheck, Answer, accepted, refused, answer, Outcome, outcome, call}
 
@@ -177,7 +177,7 @@ fitCheck a s lent =
     then lentCheck a (pointCount s) lent
     then pointsCheck 16 (columns a (a .h)) (rows a (a .h)) s
     then differenceCheck (s .zs)
-    then figuresCheck a s
+    then inLevelsCheck a s
 
 -- "An accepted fit returns the cell counts of level h"
 abbrev pub finest : Shape → CellCounts

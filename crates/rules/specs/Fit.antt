@@ -171,9 +171,9 @@ differenceCheck zs = rangeCheck (length zs) (differences zs) difference
 unfoldable pub finalCheck : Shape → Survey → Check
 finalCheck a s = rangeCheck (controls (columns a (a .h)) (rows a (a .h))) (singleLattice a s) (λ q. sum (a .h))
 
--- the figures of the levels, and the final sum "after that level's own sums"
-unfoldable pub figuresCheck : Shape → Survey → Check
-figuresCheck a s = levelsCheck a (fromBase s) then finalCheck a s
+-- what is checked once the levels have begun: each level, and the final sum "after that level's own sums"
+unfoldable pub inLevelsCheck : Shape → Survey → Check
+inLevelsCheck a s = levelsCheck a (fromBase s) then finalCheck a s
 
 -- ---- D, T and V of demand 3, "in whole numbers"
 

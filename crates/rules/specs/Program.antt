@@ -5,7 +5,7 @@ use mathlib.Core.Option.{none, some}
 use mathlib.Core.List.{List, [], _∷_, _++_}
 use lib.Dec.{leb, ltb}
 use lib.ListN.{length}
-use Rattle.rules.specs.Fit.{Shape, columns, rows, Survey, singleLattice, differenceCheck, figuresCheck}
+use Rattle.rules.specs.Fit.{Shape, columns, rows, Survey, singleLattice, differenceCheck, inLevelsCheck}
 use Rattle.rules.specs.Answers.{Refusal, number, place, short, Check, require, _then_}
 use Rattle.rules.specs.LatticeFile.{latticeFile}
 use Rattle.rules.specs.PointFile.{fileShape, fileSurvey, pointFileCheck}
@@ -31,7 +31,7 @@ programCheck input =
     then pointFileCheck input
     then require (leb (columns a (a .h)) 16 && leb (rows a (a .h)) 16) short
     then differenceCheck (fileSurvey input .zs)
-    then figuresCheck a (fileSurvey input)
+    then inLevelsCheck a (fileSurvey input)
 
 -- "writes the lattice file, or one line"
 unfoldable pub written : Check → Shape → Survey → List ℕ

@@ -1,21 +1,23 @@
 -- `fit::fit` meets its contract: a refusal before the levels is the first check that fails and leaves all as it was; what `run` leaves is cleared.
 use mathlib.Core.Path.{_≡_, sym, ap, _∙_}
 use mathlib.Core.Option.{none}
+use mathlib.Core.List.{List}
 use Prim.Native.Nat.{ℕ, _+_, _*_}
 use native.Mathlib.Omega.{arith}
 use borrow.Author.Needs.{needs}
+use lib.IntN.{ℤ}
 use lib.ListN.{length}
 use Rattle.machine.specs.Held.{Held, read}
 use Rattle.rules.specs.Grid.{limit}
-use Rattle.rules.specs.Answers.{Check}
+use Rattle.rules.specs.Answers.{Check, _then_}
 use Rattle.rules.specs.Fit.{Shape, shape, Survey, survey, pointCount, columns, rows, base, differenceCheck}
 use Rattle.rules.specs.Calls.{Lent, lent, surveyCheck, lentCheck, pointsCheck}
 use Rattle.rules.specs.Laws.Base.{base-size}
-use Rattle.rules.specs.Laws.Checks.{AllInRange}
+use Rattle.rules.specs.Laws.Checks.{then-first, AllInRange}
 use Rattle.rules.specs.Laws.Passed.{Surveyed, survey-passed}
 use Rattle.answers.specs.Cause.{check}
 use Rattle.scratch.specs.Scratch.{Celled}
-use Rattle.fit.proofs.Answering.{refused-head, refused-room, refused-points, refused-difference, run-cleared, heights-ranged, base-told, difference-told, room-is, Roomy, roomy, finest-celled, most-is, points-is, run-ready}
+use Rattle.fit.proofs.Answering.{pointed, refused-head, refused-room, refused-points, run-cleared, heights-ranged, base-told, base-refused, room-is, Roomy, roomy, finest-celled, most-is, points-is, run-ready}
 use Rattle.fit.proofs.fit.Statement.{statement}
 use Rattle.fit.proofs.fit.Tie as tie
 
@@ -69,49 +71,48 @@ module _ (c : tie.After-enum-told2) where
   room-none : lentCheck (a (opening roomed)) (pointCount (s (opening roomed))) (slices (opening roomed)) ≡ none
   room-none = found roomed (ap check (c .enum-told2 .given .1))
 
-module _ (c : tie.After-points) where
+module _ (c : tie.After-base-of) where
   abbrev counted : tie.After-cells2
   counted = roomed (c .before) .before
 
   abbrev lender : tie.After-head
   lender = first (second counted)
 
-  -- what `points` found
-  points-found : {o : Check} → check (c .points .result) ≡ o → pointsCheck 16 (columns (a lender) (a lender .h)) (rows (a lender) (a lender .h)) (s lender) ≡ o
-  points-found e = sym (points-is (celled counted) (s lender)) ∙ sym (c .points .ensures) ∙ e
-
-module _ (c : tie.After-enum-told3) where
-  abbrev third : tie.After-points
-  third = c .before .before
-
-  abbrev ground : tie.After-cells2
-  ground = counted third
-
   abbrev given : tie.Start
-  given = start (lender third)
+  given = start lender
 
-  lengths : Roomy (length (given .args .xs .now)) (most ground) (length (given .args .lattice .now)) (length (given .args .residual .now)) (length (given .args .whole .now)) (length (given .args .floats .now))
-  lengths = roomy _ _ _ _ _ _ (sym (roomed (third .before) .room .ensures) ∙ ap check (third .before .enum-told2 .given .1))
+  -- what `base_of` checks
+  abbrev asked : Check
+  asked = pointsCheck 16 (counted .before .cells .result) (counted .cells2 .result) (s lender) then differenceCheck (s lender .zs)
 
-  points-none : pointsCheck 16 (columns (a (lender third)) (a (lender third) .h)) (rows (a (lender third)) (a (lender third) .h)) (s (lender third)) ≡ none
-  points-none = points-found third (ap check (c .enum-told3 .given .1))
+  points-found : {o : Check} → asked ≡ o → pointed (a lender) (s lender) ≡ o
+  points-found e = sym (points-is (celled counted) (s lender)) ∙ e
 
-  ranged : AllInRange (length (given .args .zs .now)) (given .args .zs .now)
-  ranged = heights-ranged (a (lender third)) (s (lender third)) (shown (second ground)) points-none
+  lengths : Roomy (length (given .args .xs .now)) (most counted) (length (given .args .lattice .now)) (length (given .args .residual .now)) (length (given .args .whole .now)) (length (given .args .floats .now))
+  lengths = roomy _ _ _ _ _ _ (sym (roomed (c .before) .room .ensures) ∙ ap check (c .before .enum-told2 .given .1))
 
 module _ (c : tie.After-z) where
-  abbrev checked : tie.After-enum-told3
-  checked = c .before .before .before
+  abbrev settled : tie.After-base-of
+  settled = c .before .before
 
-  -- what `settle` told of the base
-  near : (differenceCheck (given checked .args .zs .now) ≡ none) × (c .z .given .0 .0 ≡ base (given checked .args .zs .now))
-  near = base-told (given checked .args .zs .now) (c .before .before .settle .ensures) (c .z .given .1)
+  abbrev heights : List ℤ
+  heights = given settled .args .zs .now
 
-  base-held : Held (c .z .given .0 .0) (base (given checked .args .zs .now)) limit
-  base-held = record { is = near .1; size = base-size (given checked .args .zs .now) (ranged checked) }
+  -- what `base_of` told
+  known : (asked settled ≡ none) × (c .z .given .0 .0 ≡ base heights)
+  known = base-told (asked settled) heights (settled .base-of .ensures) (c .z .given .1)
 
-abbrev settled : tie.After-run → tie.After-z
-settled c = c .before .before .before .before .before .before
+  points-none : pointed (a (lender settled)) (s (lender settled)) ≡ none
+  points-none = points-found settled (known .0)
+
+  ranged : AllInRange (length heights) heights
+  ranged = heights-ranged (columns (a (lender settled)) (a (lender settled) .h)) (rows (a (lender settled)) (a (lender settled) .h)) (s (lender settled)) (shown (second (counted settled)) .as-many-z) (then-first _ _ points-none)
+
+  base-held : Held (c .z .given .0 .0) (base heights) limit
+  base-held = record { is = known .1; size = base-size heights ranged }
+
+abbrev checked : tie.After-run → tie.After-z
+checked c = c .before .before .before .before .before .before
 
 -- ---- the needs
 
@@ -156,10 +157,14 @@ returns-2 c =
 enum-told-2 : tie.Need-enum-told-2
 enum-told-2 c = search needs
 
-points-requires : tie.Need-points-requires
-points-requires c κs =
+base-of-requires : tie.Need-base-of-requires
+base-of-requires c κs =
     let b = roomed c .before in
-    (celled b .sides .1, celled b .sides .3, shown (second b) .as-many-y, shown (second b) .as-many-z)
+    let w = shown (second b) in
+    (celled b .sides .1, celled b .sides .3, w .as-many-y, w .as-many-z, w .points-most)
+
+enum-known-z : tie.Need-enum-known-z
+enum-known-z c = search needs
 
 enum-known-r-3 : tie.Need-enum-known-r-3
 enum-known-r-3 c = search needs
@@ -168,50 +173,31 @@ returns-3 : tie.Need-returns-3
 returns-3 c =
     let q = c .before .before .before in
     let f = lender q in
-    refused-points (a f) (s f) (slices f) (head-none (second (counted q))) (room-none (q .before)) (points-found q (ap check (c .before .r3 .given .1)))
-
-enum-told-3 : tie.Need-enum-told-3
-enum-told-3 c = search needs
-
-settle-requires : tie.Need-settle-requires
-settle-requires c κs = let w = shown (second (ground c)) in (omega (arith, w .as-many-z, w .points-most), ranged c)
-
-enum-known-z : tie.Need-enum-known-z
-enum-known-z c = search needs
-
-enum-known-r-4 : tie.Need-enum-known-r-4
-enum-known-r-4 c = search needs
-
-returns-4 : tie.Need-returns-4
-returns-4 c =
-    let t = c .before .before .before in
-    let q = t .before in
-    let f = lender (third q) in
-    refused-difference (a f) (s f) (slices f) (head-none (second (ground q))) (room-none (third q .before)) (points-none q)
-    (difference-told (given q .args .zs .now) (t .settle .ensures) (c .before .r4 .given .1))
+    refused-points (a f) (s f) (slices f) (head-none (second (counted q))) (room-none (q .before))
+    (points-found q (base-refused (asked q) (given q .args .zs .now) (q .base-of .ensures) (c .before .r3 .given .1)))
 
 run-requires : tie.Need-run-requires
 run-requires c κs =
     let z = c .before .before .before .before .before in
-    let q = checked z in
-    let b = ground q in
+    let q = settled z in
+    let b = counted q in
     let r = lengths q in
-    ((run-ready (celled b) (shown (second b)) (points-none q) (near z .0) r, r .for-lattice, r .for-residual), (read tt (base-held z) .is, ranged q))
+    ((run-ready (celled b) (shown (second b)) (points-none z) r, r .for-lattice, r .for-residual), (read tt (base-held z) .is, ranged z))
 
 mul-clear : tie.Need-mul-clear
-mul-clear c = omega (arith, celled (ground (checked (settled (c .before .before .before .before .before)))))
+mul-clear c = omega (arith, celled (counted (settled (checked (c .before .before .before .before .before)))))
 
 add-clear : tie.Need-add-clear
-add-clear c = let b = ground (checked (settled (c .before .before .before .before .before))) in omega (arith, celled b, shown (second b))
+add-clear c = let b = counted (settled (checked (c .before .before .before .before .before))) in omega (arith, celled b, shown (second b))
 
 clear-requires : tie.Need-clear-requires
-clear-requires c κs = let r = c .before .before .before .before .before .before in omega (arith, lengths (checked (settled r)), r .run .kept .1 .1 .1 .1 .1 .1 .1 .1 .1 .1 .0)
+clear-requires c κs = let r = c .before .before .before .before .before .before in omega (arith, lengths (settled (checked r)), r .run .kept .1 .1 .1 .1 .1 .1 .1 .1 .1 .1 .0)
 
 mul-clear-2 : tie.Need-mul-clear-2
-mul-clear-2 c = omega (arith, celled (ground (checked (settled (c .before .before .before .before .before .before .before .before)))))
+mul-clear-2 c = omega (arith, celled (counted (settled (checked (c .before .before .before .before .before .before .before .before)))))
 
 clear-requires-2 : tie.Need-clear-requires-2
-clear-requires-2 c κs = let r = c .before .before .before .before .before .before .before .before .before in omega (arith, lengths (checked (settled r)), r .run .kept .1 .1 .1 .1 .1 .1 .1 .1 .1 .1 .1 .0)
+clear-requires-2 c κs = let r = c .before .before .before .before .before .before .before .before .before in omega (arith, lengths (settled (checked r)), r .run .kept .1 .1 .1 .1 .1 .1 .1 .1 .1 .1 .1 .0)
 
 same-length : tie.Need-same-length
 same-length c = search needs
@@ -225,16 +211,16 @@ same-length-3 c = search needs
 same-length-4 : tie.Need-same-length-4
 same-length-4 c = search needs
 
-returns-5 : tie.Need-returns-5
-returns-5 c =
+returns-4 : tie.Need-returns-4
+returns-4 c =
     let w = c .before .before .before .before .before in
     let r = w .before .before .before .before .before .before .before in
-    let z = settled r in
-    let q = checked z in
-    let f = lender (third q) in
+    let z = checked r in
+    let q = settled z in
+    let f = lender q in
     let last = r .run .last .1 .1 .1 .1 .1 .1 .1 .1 in
-    run-cleared (a f) (s f) (slices f) (head-none (second (ground q))) (room-none (third q .before)) (points-none q) (lent (last .0) (last .1 .0) (last .1 .1 .0) (last .1 .1 .1 .0))
-    (near z .0) (most-is (celled (ground q))) (r .run .ensures) (w .clear .ensures) (c .before .before .clear2 .ensures)
+    run-cleared (a f) (s f) (slices f) (head-none (second (counted q))) (room-none (q .before)) (lent (last .0) (last .1 .0) (last .1 .1 .0) (last .1 .1 .1 .0))
+    (points-none z) (most-is (celled (counted q))) (r .run .ensures) (w .clear .ensures) (c .before .before .clear2 .ensures)
 
 pub fit-spec : {M : Type 1} → statement M
 fit-spec =
@@ -253,14 +239,10 @@ fit-spec =
     enum-known-r-2
     returns-2
     enum-told-2
-    points-requires
+    base-of-requires
+    enum-known-z
     enum-known-r-3
     returns-3
-    enum-told-3
-    settle-requires
-    enum-known-z
-    enum-known-r-4
-    returns-4
     run-requires
     mul-clear
     add-clear
@@ -271,4 +253,4 @@ fit-spec =
     same-length-2
     same-length-3
     same-length-4
-    returns-5)
+    returns-4)

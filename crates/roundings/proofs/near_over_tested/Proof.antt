@@ -6,7 +6,7 @@ use borrow.Author.Needs.{needs}
 use Rattle.machine.specs.Held.{fits, small, returned}
 use Rattle.rules.specs.Rounding.{floor}
 use Rattle.roundings.proofs.Halved.{sum, over, floored}
-use Rattle.roundings.proofs.Over.{near-shift}
+use Rattle.roundings.proofs.Over.{over-thirds}
 use Rattle.roundings.proofs.near_over_tested.Statement.{statement}
 use Rattle.roundings.proofs.near_over_tested.Tie as tie
 
@@ -15,7 +15,7 @@ returns c =
     let a = c .before .args in
     returned (c .third-tested .ok) (c .third-tested .ensures)
     ∙ ap (λ z. floor z 3) (floored (a .v) 3 (3 * a .e) (omega arith) (omega arith) (omega arith) (3 * a .e + 1))
-    ∙ near-shift (a .v) (a .e)
+    ∙ over-thirds (a .v) (a .e)
 
 mul-s : tie.Need-mul-s
 mul-s c = search needs

@@ -16,7 +16,7 @@ use Rattle.algebra.specs.Table.{over, getD-over}
 use Rattle.rules.specs.Rounding.{near}
 use Rattle.rules.specs.Grid.{Lattice, cellsAt, unitAt, inside, controls, control}
 use Rattle.rules.specs.Surface.{denominator, surface, height}
-use Rattle.rules.specs.Fit.{Shape, columns, rows, unitOf, Survey, base, fromBase, level, raised, running, singleLattice, finalCheck, figuresCheck}
+use Rattle.rules.specs.Fit.{Shape, columns, rows, unitOf, Survey, base, fromBase, level, raised, running, singleLattice, finalCheck, inLevelsCheck}
 use Rattle.rules.specs.Fit.{theD, levelSurface, theT, theSum, theV}
 use Rattle.rules.specs.Answers.{require, answer}
 use Rattle.rules.specs.Calls.{Lent, unitCheck, latticeCheck, heightCheck, heightAnswer, fitCheck, finest, fitCall}
@@ -107,7 +107,7 @@ record Shown (a : Shape) (s : Survey) : Type 0 where
 
 -- wherever among the checks the final sums are judged
 final-passed : (a : Shape) (s : Survey) (lent : Lent) → fitCheck a s lent ≡ none → finalCheck a s ≡ none
-unfolding fitCheck figuresCheck
+unfolding fitCheck inLevelsCheck
 final-passed a s lent e = search (then-first, then-rest)
 
 shown : (a : Shape) (s : Survey) (lent : Lent) → fitCheck a s lent ≡ none → Shown a s

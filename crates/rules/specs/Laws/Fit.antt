@@ -38,7 +38,7 @@ unfolding levelOf store levelValue fittedAt
 level-size a k s i h =
     subst (λ z. natAbs z ≤ limit) (sym (getD-tabulate (controls (columns a k) (rows a k)) _ i (pos 0) h)) (settled-size _)
 
--- so a sum cannot leave its range at level 0
+-- so no sum of the running lattice of level 0, which is the level lattice, leaves its range
 pub first-sums : (a : Shape) (s : Survey) → sumCheck a s 0 ≡ none
 unfolding sumCheck running level
 first-sums a s =

@@ -10,7 +10,7 @@ use lib.IntN.{ℤ}
 use lib.ListN.{length}
 use Rattle.rules.specs.Grid.{controls}
 use Rattle.rules.specs.Fit.{Shape, columns, rows, Survey, pointCount, valued, differences, fromBase, levelValue, residuals, running, singleLattice}
-use Rattle.rules.specs.Fit.{present, quotientCheck, residualCheck, sumCheck, levelCheck, levelsCheck, differenceCheck, finalCheck, figuresCheck}
+use Rattle.rules.specs.Fit.{present, quotientCheck, residualCheck, sumCheck, levelCheck, levelsCheck, differenceCheck, finalCheck, inLevelsCheck}
 use Rattle.rules.specs.Answers.{Refusal, difference, quotient, residual, sum, number, place, inLevels, Check, require, _then_}
 use Rattle.rules.specs.Calls.{Lent, surveyCheck, cellsCheck, hCheck, listsCheck, roomCheck, lentCheck, pointCheck, pointsCheck, fitCheck, latticeCheck, refineCheck}
 use Rattle.rules.specs.Laws.Checks.{then-none, then-some, then-refusal, then-assoc, require-refusal, firstOf-none, firstOf-all, firstOf-at, firstOf-only, firstOf-refusal}
@@ -25,7 +25,7 @@ module _ (a : Shape) (s : Survey) (l : Lent) where
   earlyCheck = surveyCheck a s then lentCheck a (pointCount s) l then pointsCheck 16 (columns a (a .h)) (rows a (a .h)) s then differenceCheck (s .zs)
 
   -- a fit's check is these, and then that of the levels' figures
-  pub grouped : fitCheck a s l ≡ (earlyCheck then figuresCheck a s)
+  pub grouped : fitCheck a s l ≡ (earlyCheck then inLevelsCheck a s)
   unfolding fitCheck
   grouped =
       let room = lentCheck a (pointCount s) l in
@@ -52,9 +52,9 @@ levels-only a s =
     only-then (only-firstOf _ _ (λ q. only-require _ _ refl)) (only-then (only-rangeCheck _ _ _ (λ i. refl)) (only-rangeCheck _ _ _ (λ i. refl))))
 
 -- nor does the final sum
-pub figures-only : (a : Shape) (s : Survey) → Only (λ r. inLevels r ≡ true) (figuresCheck a s)
-unfolding figuresCheck finalCheck
-figures-only a s = only-then (levels-only a (fromBase s)) (only-rangeCheck _ _ _ (λ q. refl))
+pub in-levels-only : (a : Shape) (s : Survey) → Only (λ r. inLevels r ≡ true) (inLevelsCheck a s)
+unfolding inLevelsCheck finalCheck
+in-levels-only a s = only-then (levels-only a (fromBase s)) (only-rangeCheck _ _ _ (λ q. refl))
 
 -- "Refine never gives 7", nor 13 or 14
 pub refine-only : (m n : ℕ) (lattice output : List ℤ) → Only (λ r. inLevels r ≡ false) (refineCheck m n lattice output)
@@ -188,42 +188,53 @@ module _ (a : Shape) (s : Survey) where
       record { by-15 = λ n. absurd (omega arith); by-7 = λ n. absurd (omega arith); by-13 = λ n. absurd (omega arith); by-14 = λ n. absurd (omega arith) }
 
   pub which-figure : (l : Lent) (r : Refusal) → fitCheck a s l ≡ some r → WhichFigure a s (number r) (place r)
-  unfolding figuresCheck
+  unfolding inLevelsCheck
   which-figure l r e =
       ⊎-elim (early a s l given-tells difference-tells .only r)
       (λ rest. ⊎-elim (levels-tell r) (λ last. final-tells r (last .0) (last .1)) (then-refusal (levelsCheck a d) (finalCheck a s) r (rest .1)))
-      (then-refusal (earlyCheck a s l) (figuresCheck a s) r (sym (grouped a s l) ∙ e))
+      (then-refusal (earlyCheck a s l) (inLevelsCheck a s) r (sym (grouped a s l) ∙ e))
 
-  -- and a figure out of range, where all that is judged before it is in range, is the one that is told
-  pub difference-told : (i : ℕ) → DifferenceOut (s .zs) i → differenceCheck (s .zs) ≡ some (difference i)
-  unfolding differenceCheck
-  difference-told i o = firstOut-at (length (s .zs)) i (differences (s .zs)) (o .listed) (o .out) difference
+  -- and a figure out of range, where nothing that is checked before it is refused, is the one that is told
+  module _ (l : Lent) where
+    pub difference-told : (i : ℕ) → surveyCheck a s ≡ none → lentCheck a (pointCount s) l ≡ none → pointsCheck 16 (columns a (a .h)) (rows a (a .h)) s ≡ none
+        → DifferenceOut (s .zs) i → fitCheck a s l ≡ some (difference i)
+    unfolding fitCheck differenceCheck
+    difference-told i head room points o =
+        then-none _ _ head
+        ∙ then-none _ _ room
+        ∙ then-none _ _ points
+        ∙ then-some _ _ (firstOut-at (length (s .zs)) i (differences (s .zs)) (o .listed) (o .out) difference)
 
-  module _ (k : ℕ) where
-    level-refuses : {r : Refusal} → Reached a d k → levelCheck a d k ≡ some r → figuresCheck a s ≡ some r
-    unfolding figuresCheck levelsCheck
-    level-refuses {r} p e = then-some _ _ (firstOf-at (a .h + 1) k (levelCheck a d) r (firstOf-all k (levelCheck a d) (p .before)) (omega (arith, p .of-fit)) e)
+    module _ (early : earlyCheck a s l ≡ none) (k : ℕ) where
+      in-levels-told : {r : Refusal} → inLevelsCheck a s ≡ some r → fitCheck a s l ≡ some r
+      in-levels-told e = grouped a s l ∙ then-none _ _ early ∙ e
 
-    pub quotient-told : QuotientOut a d k → figuresCheck a s ≡ some (quotient k)
-    unfolding levelCheck quotientCheck
-    quotient-told o =
-        level-refuses (o .reached) (then-some _ _ (firstOf-only (o .at) _ _ (λ q. only-require _ _ refl) (o .stored) (absent-refused _ (quotient k) (o .no-value))))
+      level-refuses : {r : Refusal} → Reached a d k → levelCheck a d k ≡ some r → fitCheck a s l ≡ some r
+      unfolding inLevelsCheck levelsCheck
+      level-refuses {r} p e =
+          in-levels-told (then-some _ _ (firstOf-at (a .h + 1) k (levelCheck a d) r (firstOf-all k (levelCheck a d) (p .before)) (omega (arith, p .of-fit)) e))
 
-    pub residual-told : ResidualOut a d k → figuresCheck a s ≡ some (residual k)
-    unfolding levelCheck residualCheck
-    residual-told o =
-        level-refuses (o .reached) (then-none _ _ (o .quotients) ∙ then-some _ _ (firstOut-at (pointCount s) (o .point) (residuals a d (suc k)) (o .listed) (o .out) _))
+      pub quotient-told : QuotientOut a d k → fitCheck a s l ≡ some (quotient k)
+      unfolding levelCheck quotientCheck
+      quotient-told o =
+          level-refuses (o .reached) (then-some _ _ (firstOf-only (o .at) _ _ (λ q. only-require _ _ refl) (o .stored) (absent-refused _ (quotient k) (o .no-value))))
 
-    pub sum-told : SumOut a d k → figuresCheck a s ≡ some (sum k)
-    unfolding levelCheck residualCheck sumCheck
-    sum-told o =
-        let fine = size-rangeCheck (pointCount s) (residuals a d (suc k)) (λ i. residual k) (o .residuals-in) in
-        let out = firstOut-at (controls (columns a k) (rows a k)) (o .at) (running a d k) (o .stored) (o .out) (λ q. sum k) in
-        level-refuses (o .reached) (then-none _ _ (o .quotients) ∙ then-none _ _ fine ∙ out)
+      pub residual-told : ResidualOut a d k → fitCheck a s l ≡ some (residual k)
+      unfolding levelCheck residualCheck
+      residual-told o =
+          level-refuses (o .reached) (then-none _ _ (o .quotients) ∙ then-some _ _ (firstOut-at (pointCount s) (o .point) (residuals a d (suc k)) (o .listed) (o .out) _))
 
-    pub final-told : FinalOut a s k → figuresCheck a s ≡ some (sum k)
-    unfolding figuresCheck finalCheck
-    final-told o =
-        rw (← o .last)
-        (then-none _ _ (o .levels-in)
-        ∙ firstOut-at (controls (columns a (a .h)) (rows a (a .h))) (o .at) (singleLattice a s) (o .stored) (o .out) (λ q. sum (a .h)))
+      pub sum-told : SumOut a d k → fitCheck a s l ≡ some (sum k)
+      unfolding levelCheck residualCheck sumCheck
+      sum-told o =
+          let fine = size-rangeCheck (pointCount s) (residuals a d (suc k)) (λ i. residual k) (o .residuals-in) in
+          let out = firstOut-at (controls (columns a k) (rows a k)) (o .at) (running a d k) (o .stored) (o .out) (λ q. sum k) in
+          level-refuses (o .reached) (then-none _ _ (o .quotients) ∙ then-none _ _ fine ∙ out)
+
+      pub final-told : FinalOut a s k → fitCheck a s l ≡ some (sum k)
+      unfolding inLevelsCheck finalCheck
+      final-told o =
+          rw (← o .last)
+          (in-levels-told
+          (then-none _ _ (o .levels-in)
+          ∙ firstOut-at (controls (columns a (a .h)) (rows a (a .h))) (o .at) (singleLattice a s) (o .stored) (o .out) (λ q. sum (a .h))))
