@@ -9,56 +9,14 @@ ghost use Rattle.rules.specs.Grid.{limit};
 ghost use Rattle.rules.specs.Fit as rule;
 ghost use Rattle.rules.specs.Laws.Checks.{AllInRange};
 ghost use Rattle.answers.specs.Cause.{check};
-ghost use Rattle.base.specs.Extent as extent;
 ghost use Rattle.base.specs.Told.{told};
 use answers::Refusal;
 use answers::Verdict;
-
-// How far heights reach: their sum, the least and the greatest, with 0 among these two.
-struct Extent {
-    sum: i64,
-    least: i64,
-    greatest: i64,
-}
 
 // What heights tell of their base: it, or the point whose difference from it is refused.
 pub enum BaseTold {
     Base(i64),
     Refused(Refusal),
-}
-
-fn lesser(a: i64, b: i64) -> i64
-    ensures { λ r. ⌜ r ≡ extent.lesser a b ⌝ }
-{
-    if b < a { b } else { a }
-}
-
-fn greater(a: i64, b: i64) -> i64
-    ensures { λ r. ⌜ r ≡ extent.greater a b ⌝ }
-{
-    if a < b { b } else { a }
-}
-
-fn extent_of(zs: &[i64]) -> Extent
-    requires { ⌜ (length (now zs) ≤ 65_535) × AllInRange (length (now zs)) (now zs) ⌝ }
-    ensures { λ r. ⌜ (r .sum ≡ rule.total (length (now (zs .entry))) (now (zs .entry))) × (r .least ≡ extent.leastOf (length (now (zs .entry))) (now (zs .entry))) × (r .greatest ≡ extent.greatestOf (length (now (zs .entry))) (now (zs .entry))) ⌝ }
-{
-    let mut sum = 0;
-    let mut least = 0;
-    let mut greatest = 0;
-    let mut i = 0;
-    while i < zs.len() {
-        let z = zs[i];
-        sum += z;
-        least = lesser(least, z);
-        greatest = greater(greatest, z);
-        i += 1;
-    }
-    Extent {
-        sum,
-        least,
-        greatest,
-    }
 }
 
 // near of the mean of p heights, 0 of none
@@ -87,18 +45,14 @@ fn first_far(zs: &[i64], base: i64) -> Verdict
     Verdict::Fine
 }
 
-// The base, in one pass over the heights: where the least and the greatest are near enough to it all are, and only else is there a second pass, for the
-// first that is not.
-pub fn settle(zs: &[i64]) -> BaseTold
-    requires { ⌜ (length (now zs) ≤ 65_535) × AllInRange (length (now zs)) (now zs) ⌝ }
+// The base of heights with this sum, in one pass that tests none by itself; only where it finds a difference out of range is there another, for the first.
+pub fn settle(zs: &[i64], sum: i64) -> BaseTold
+    requires { ⌜ (length (now zs) ≤ 65_535) × AllInRange (length (now zs)) (now zs) × (sum ≡ rule.total (length (now zs)) (now zs)) ⌝ }
     ensures { λ r. ⌜ told r ≡ answer (rule.differenceCheck (now (zs .entry))) (rule.base (now (zs .entry))) ⌝ }
 {
-    let heights = extent_of(zs);
-    let base = near_mean(heights.sum, zs.len());
-    if range::in_range(heights.least - base) {
-        if range::in_range(heights.greatest - base) {
-            return BaseTold::Base(base);
-        }
+    let base = near_mean(sum, zs.len());
+    if range::all_shifted(zs, 0 - base) {
+        return BaseTold::Base(base);
     }
     match first_far(zs, base) {
         Verdict::Fine => BaseTold::Base(base),

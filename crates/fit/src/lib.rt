@@ -12,16 +12,17 @@ ghost use Rattle.base.specs.Told.{told as base-told};
 use answers::CellsTold;
 use answers::Verdict;
 use base::BaseTold;
+use point_checks::PointsTold;
 
 // 5 and 6 point by point, then 15, and the base of points that are in order.
 fn base_of(m: usize, n: usize, xs: &[u16], ys: &[u16], zs: &[i64]) -> BaseTold
     requires { ⌜ (m ≤ 512) × (n ≤ 512) × (length (now ys) ≡ length (now xs)) × (length (now zs) ≡ length (now xs)) × (length (now xs) ≤ 65_535) ⌝ }
     ensures { λ r. ⌜ base-told r ≡ answer (pointsCheck 16 m n (survey (now (xs .entry)) (now (ys .entry)) (now (zs .entry))) then differenceCheck (now (zs .entry))) (base (now (zs .entry))) ⌝ }
 {
-    if let Verdict::Refused(r) = point_checks::points(m, n, xs, ys, zs) {
-        return BaseTold::Refused(r);
+    match point_checks::points(m, n, xs, ys, zs) {
+        PointsTold::Sum(z) => base::settle(zs, z),
+        PointsTold::Refused(r) => BaseTold::Refused(r),
     }
-    base::settle(zs)
 }
 
 // A fit, behind its checks in their order. After them the scratch is used, and cleared whatever the levels answer.

@@ -12,6 +12,7 @@ ghost use Rattle.point_writer.specs.Written.{headBytes};
 use answers::CountTold;
 use answers::Refusal;
 use answers::Verdict;
+use point_checks::PointsTold;
 use records::H;
 use records::P;
 use records::T;
@@ -70,7 +71,7 @@ pub fn write_points(
     if output.len() < 8 + 14 * p {
         return CountTold::Refused(Refusal::Short);
     }
-    if let Verdict::Refused(r) = point_checks::points(m0 << h, n0 << h, xs, ys, zs) {
+    if let PointsTold::Refused(r) = point_checks::points(m0 << h, n0 << h, xs, ys, zs) {
         return CountTold::Refused(r);
     }
     put_head(m0, n0, h, p, output);

@@ -1,24 +1,21 @@
--- `base::settle` meets its contract: where the least and the greatest are in range of the base all heights are, and else they are gone through.
-use mathlib.Core.Path.{_≡_, refl, sym, ap, subst, _∙_}
+-- `base::settle` meets its contract: where all differences are in range there is the base, and else they are gone through.
+use mathlib.Core.Path.{_≡_, refl, ap, _∙_}
 use mathlib.Core.Bool.{Bool, true}
 use mathlib.Core.Option.{none, some}
 use mathlib.Core.List.{List}
-use Prim.Native.Nat.{_≤_}
 use native.Mathlib.Omega.{arith}
 use borrow.Author.Needs.{needs}
-use lib.Dec.{T}
-use lib.IntN.{ℤ, natAbs, _-ℤ_}
+use lib.IntN.{ℤ, pos, negℤ, _-ℤ_, +ℤ-idl}
 use lib.ListN.{length}
 use mir.Syntax.{w64}
 use mir.Val.{toZ, ofZ}
-use Rattle.machine.specs.Held.{Number, number, Held, read, minus, fits, small}
-use Rattle.rules.specs.Grid.{limit, inRange}
-use Rattle.rules.specs.Answers.{Refusal, difference, accepted, refused, answer}
-use Rattle.rules.specs.Fit.{total, nearMean, base, differences, differenceCheck}
-use Rattle.rules.specs.Laws.Base.{total-size, base-size, difference-at}
-use Rattle.rules.specs.Laws.Checks.{AllInRange, inRange-size, size-rangeCheck}
-use Rattle.answers.specs.Cause.{found}
-use Rattle.base.specs.Extent.{leastOf, greatestOf, least-size, greatest-size, all-near}
+use Rattle.machine.specs.Held.{Number, number, Held, literal, read, minus, fits, small}
+use Rattle.rules.specs.Grid.{limit}
+use Rattle.rules.specs.Answers.{Refusal, difference, rangeCheck, accepted, refused, answer}
+use Rattle.rules.specs.Fit.{total, nearMean, base, shifted, differences, differenceCheck}
+use Rattle.rules.specs.Laws.Base.{total-size, base-size}
+use Rattle.rules.specs.Laws.Checks.{rangeCheck-size, size-rangeCheck}
+use Rattle.answers.specs.Cause.{okCheck, found}
 use Rattle.base.proofs.settle.Statement.{statement}
 use Rattle.base.proofs.settle.Tie as tie
 
@@ -33,91 +30,70 @@ module _ (zs : List ℤ) where
   unfolding answer
   refusal-told e = rw e refl
 
-  -- both ends are in range of the base
-  none-far : natAbs (leastOf (length zs) zs -ℤ base zs) ≤ limit → natAbs (greatestOf (length zs) zs -ℤ base zs) ≤ limit → differenceCheck zs ≡ none
-  unfolding differenceCheck
-  none-far low high =
-      size-rangeCheck (length zs) (differences zs) difference
-      (λ i l. subst (λ z. natAbs z ≤ limit) (sym (difference-at zs i l)) (all-near zs (length zs) limit (base zs) low high i l))
+  -- all are in range with x added, which is 0 less the base
+  none-far : (x : ℤ) → x ≡ pos 0 -ℤ base zs → rangeCheck (length zs) (shifted x zs) difference ≡ none → differenceCheck zs ≡ none
+  unfolding differenceCheck differences
+  none-far x is e = rw (← +ℤ-idl (negℤ (base zs)), ← is) e
 
--- what `in_range` said of a number
-in-range-known : {x z : ℤ} {b : Bool} → x ≡ z → b ≡ inRange x → b ≡ true → natAbs z ≤ limit
-in-range-known e told t = rw (← e) (inRange-size _ (subst T (sym t ∙ told) tt))
+-- whatever refuses them
+any-refusal : (zs : List ℤ) (x : ℤ) {ok : Bool} → ((r : Refusal) → rangeCheck (length zs) (shifted x zs) (λ i. r) ≡ okCheck ok r) → ok ≡ true
+    → rangeCheck (length zs) (shifted x zs) difference ≡ none
+any-refusal zs x e t =
+    size-rangeCheck (length zs) (shifted x zs) difference (rangeCheck-size (length zs) (shifted x zs) (λ i. difference 0) (e (difference 0) ∙ ap (λ ok. okCheck ok (difference 0)) t))
 
 -- ---- the numbers
 
-sum-held : (c : tie.After-extent-of) → Held (c .extent-of .result .sum) (total (length (c .before .args .zs .now)) (c .before .args .zs .now)) 262_140_000_000_000
+sum-held : (c : tie.Start) → Held (toZ w64 (ofZ w64 (c .args .sum))) (total (length (c .args .zs .now)) (c .args .zs .now)) 262_140_000_000_000
 sum-held c =
-    let zs = c .before .args .zs .now in
-    record { is = c .extent-of .ensures .0; size = omega (arith, total-size (length zs) zs (c .before .pre .1), c .before .pre .0) }
+    let zs = c .args .zs .now in
+    read tt (record { is = c .pre .2; size = omega (arith, total-size (length zs) zs (c .pre .1), c .pre .0) })
 
 module _ (c : tie.After-near-mean) where
   abbrev zs : List ℤ
-  zs = c .before .before .before .args .zs .now
-
-  abbrev ranged : AllInRange (length zs) zs
-  ranged = c .before .before .before .pre .1
+  zs = c .before .args .zs .now
 
   base-is : c .near-mean .result ≡ base zs
   unfolding base
-  base-is = c .near-mean .ensures ∙ ap (λ v. nearMean v (length zs)) (read tt (sum-held (c .before .before)) .is)
+  base-is = c .near-mean .ensures ∙ ap (λ v. nearMean v (length zs)) (sum-held (c .before) .is)
 
   abbrev base-held : Held (toZ w64 (ofZ w64 (c .near-mean .result))) (base zs) limit
-  base-held = read tt (record { is = base-is; size = base-size zs ranged })
+  base-held = read tt (record { is = base-is; size = base-size zs (c .before .pre .1) })
 
-  -- how far the least and the greatest are from the base
-  abbrev low : Number
-  low = number (minus (read tt (record { is = c .before .before .extent-of .ensures .1; size = least-size zs (length zs) limit ranged })) base-held)
-
-  abbrev high : Number
-  high = number (minus (read tt (record { is = c .before .before .extent-of .ensures .2; size = greatest-size zs (length zs) limit ranged })) base-held)
+  -- 0 less the base
+  abbrev lowering : Number
+  lowering = number (minus (literal (pos 0)) base-held)
 
 -- ---- what it answers
 
 returns : tie.Need-returns
 returns c =
-    let second = c .before in
-    let first = second .before .before .before .before in
-    let m = first .before .before .before in
-    base-told (zs m) (base-held m .is)
-    (none-far (zs m) (in-range-known (read tt (low m .held) .is) (first .in-range .ensures) (second .before .before .before .if1 .taken))
-    (in-range-known (read tt (high m .held) .is) (second .in-range2 .ensures) (c .if2 .taken)))
+    let m = c .before .before in
+    base-told (zs m) (base-held m .is) (none-far (zs m) _ (read tt (lowering m .held) .is) (any-refusal (zs m) _ (c .before .all-shifted .ensures) (c .if1 .taken)))
 
 returns-2 : tie.Need-returns-2
 returns-2 c =
     let f = c .before .before in
-    let m = f .before .before .before .before .before in
+    let m = f .before .before .before in
     base-told (zs m) (base-held m .is) (found (f .first-far .ensures) (c .enum-told .given .1))
 
 returns-3 : tie.Need-returns-3
 returns-3 c =
     let f = c .before .before .before in
-    refusal-told (zs (f .before .before .before .before .before)) (found (f .first-far .ensures) (c .before .r .given .1))
-
--- ---- nothing wraps
-
-near-mean-requires : tie.Need-near-mean-requires
-near-mean-requires c κs = (small 262_140_000_000_000 tt (read tt (sum-held (c .before))), c .before .before .pre .0)
-
-sub-in-range : tie.Need-sub-in-range
-sub-in-range c = fits tt (low (c .before .before) .held)
-
-sub-in-range-2 : tie.Need-sub-in-range-2
-sub-in-range-2 c = fits tt (high (c .before .before .before .before .before .before) .held)
-
-first-far-requires : tie.Need-first-far-requires
-first-far-requires c κs = let m = c .before .before .before .before in (ranged m, base-held m .is)
+    refusal-told (zs (f .before .before .before)) (found (f .first-far .ensures) (c .before .r .given .1))
 
 -- ---- what its calls ask
 
-extent-of-requires : tie.Need-extent-of-requires
-extent-of-requires c κs = search needs
+near-mean-requires : tie.Need-near-mean-requires
+near-mean-requires c κs = (small 262_140_000_000_000 tt (sum-held c), c .pre .0)
 
-in-range-requires : tie.Need-in-range-requires
-in-range-requires c κs = search needs
+sub-all-shifted : tie.Need-sub-all-shifted
+sub-all-shifted c = fits tt (lowering c .held)
 
-in-range-requires-2 : tie.Need-in-range-requires-2
-in-range-requires-2 c κs = search needs
+all-shifted-requires : tie.Need-all-shifted-requires
+all-shifted-requires c κs = (c .before .pre .1, small limit tt (read tt (lowering c .held)))
+
+first-far-requires : tie.Need-first-far-requires
+first-far-requires c κs = let m = c .before .before in (m .before .pre .1, base-held m .is)
 
 enum-told : tie.Need-enum-told
 enum-told c = search needs
@@ -129,12 +105,9 @@ pub settle-spec : {M : Type 1} → statement M
 settle-spec =
     tie.close
     (tie.spec
-    extent-of-requires
     near-mean-requires
-    sub-in-range
-    in-range-requires
-    sub-in-range-2
-    in-range-requires-2
+    sub-all-shifted
+    all-shifted-requires
     returns
     first-far-requires
     enum-told

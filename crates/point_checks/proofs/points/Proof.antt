@@ -1,38 +1,33 @@
--- `point_checks::points` meets its contract. The loop's invariant: no point before i is refused.
-use mathlib.Core.Path.{_≡_, sym, ap, _∙_}
+-- `point_checks::points` meets its contract. The loop's invariant: no point before i is refused, and the sum is that of their heights.
+use mathlib.Core.Path.{_≡_, refl, sym, ap, subst, _∙_}
 use mathlib.Core.Bool.{true, false}
 use mathlib.Core.Option.{none, some}
 use Prim.Native.Nat.{ℕ, _-_, _*_, _≤_, _<_}
 use native.Mathlib.Omega.{arith}
-use borrow.Author.Needs.{needs}
 use borrow.Author.Tests.{le-leb, lt-leb, not-true, not-false}
 use borrow.Author.Count.{below-none, below-more}
+use lib.Dec.{T}
 use lib.IntN.{ℤ, pos}
 use lib.ListN.{length, getD}
+use mir.Syntax.{w64}
+use mir.Val.{toZ}
+use Rattle.machine.specs.Held.{Held, Number, number, itself, read, plus, fits}
 use Rattle.machine.specs.Tests.{plain}
-use Rattle.rules.specs.Grid.{inRange, inside}
-use Rattle.rules.specs.Fit.{Survey, survey, pointCount, pointAt}
-use Rattle.rules.specs.Answers.{Refusal, Check, position, range, require, _then_}
+use Rattle.rules.specs.Grid.{limit, inRange, inside}
+use Rattle.rules.specs.Fit.{Survey, survey, pointCount, pointAt, total}
+use Rattle.rules.specs.Answers.{Refusal, Check, position, range, require, _then_, accepted, refused, answer}
 use Rattle.rules.specs.Calls.{pointCheck, pointsCheck}
-use Rattle.rules.specs.Laws.Checks.{firstOf-all, firstOf-at}
+use Rattle.rules.specs.Laws.Base.{total-more, total-size}
+use Rattle.rules.specs.Laws.Checks.{required, then-rest, firstOf-all, firstOf-at, AllInRange, inRange-size}
 use Rattle.point_checks.proofs.points.Statement.{statement}
 use Rattle.point_checks.proofs.points.Tie as tie
 
 abbrev Inv-loop : tie.InvT-loop
-Inv-loop m n xs ys zs right top i₀ i = (i ≤ length xs) × ((k : ℕ) → k < i → pointCheck 16 m n k (pointAt (survey xs ys zs) k) ≡ none)
+Inv-loop m n xs ys zs right top sum₀ i₀ sum i =
+    (i ≤ length xs) × ((k : ℕ) → k < i → pointCheck 16 m n k (pointAt (survey xs ys zs) k) ≡ none) × (toZ w64 sum ≡ total i zs)
 
 abbrev μ-loop : tie.MeasureT-loop
-μ-loop m n xs ys zs right top i₀ i = length xs - i
-
--- the height that a turn reads
-abbrev height : tie.After-in-range Inv-loop μ-loop → ℤ
-height c =
-    let p = c .before .before .before .before .before .before .before in
-    getD (p .before .before .before .args .zs .now) (p .loop .i) (pos 0)
-
--- in_range was handed its bits, read back
-height-tested : (c : tie.After-in-range Inv-loop μ-loop) → c .in-range .result ≡ inRange (height c)
-height-tested c = c .in-range .ensures ∙ ap inRange (plain (height c) (c .before .in-range-arg .given))
+μ-loop m n xs ys zs right top sum₀ i₀ sum i = length xs - i
 
 module _ (m n : ℕ) (s : Survey) (i : ℕ) where
   abbrev found : Check
@@ -55,9 +50,49 @@ module _ (m n : ℕ) (s : Survey) (i : ℕ) where
   fine x y z = simp (le-leb _ _ x, le-leb _ _ y, z)
 
   -- point i is the first that is refused
-  first : (r : Refusal) → ((k : ℕ) → k < i → pointCheck 16 m n k (pointAt s k) ≡ none) → i < pointCount s → found ≡ some r → some r ≡ pointsCheck 16 m n s
-  unfolding pointsCheck
-  first r before l e = sym (firstOf-at (pointCount s) i _ r (firstOf-all i _ before) l e)
+  first : (r : Refusal) (v : ℤ) → ((k : ℕ) → k < i → pointCheck 16 m n k (pointAt s k) ≡ none) → i < pointCount s → found ≡ some r → refused r ≡ answer (pointsCheck 16 m n s) v
+  unfolding pointsCheck answer
+  first r v before l e = rw (firstOf-at (pointCount s) i _ r (firstOf-all i _ before) l e) refl
+
+  -- the heights before it are in range
+  ranged : ((k : ℕ) → k < i → pointCheck 16 m n k (pointAt s k) ≡ none) → AllInRange i (s .zs)
+  unfolding pointCheck
+  ranged before k l = inRange-size _ (required _ (range k) (then-rest _ _ (before k l)))
+
+-- ---- the turn, and what it reads
+
+module _ (c : tie.After-z Inv-loop μ-loop) where
+  abbrev turn : tie.In-loop Inv-loop μ-loop
+  turn = c .before .before .before .before .before
+
+  abbrev given : tie.Start Inv-loop μ-loop
+  given = turn .before .before .before .before
+
+  abbrev points : Survey
+  points = survey (given .args .xs .now) (given .args .ys .now) (given .args .zs .now)
+
+  abbrev height : ℤ
+  height = getD (given .args .zs .now) (turn .before .loop .i) (pos 0)
+
+  so-far : Held (toZ w64 (turn .before .loop .sum)) (total (turn .before .loop .i) (given .args .zs .now)) (65_535 * limit)
+  so-far = record {
+    is = turn .before .loop .inv .2;
+    size = omega (arith, total-size (turn .before .loop .i) (given .args .zs .now) (ranged (given .args .m) (given .args .n) points (turn .before .loop .i) (turn .before .loop .inv .1)), turn .before .loop .inv .0, given .pre);
+  }
+
+-- `in_range` was handed the height's bits, read back
+height-tested : (c : tie.After-in-range Inv-loop μ-loop) → c .in-range .result ≡ inRange (height (c .before))
+height-tested c = c .in-range .ensures ∙ ap inRange (plain (height (c .before)) (c .before .z .given))
+
+module _ (c : tie.Else3 Inv-loop μ-loop) where
+  abbrev at : tie.After-z Inv-loop μ-loop
+  at = c .before .before
+
+  in-range : inRange (height at) ≡ true
+  in-range = sym (height-tested (c .before)) ∙ not-false _ (c .if3 .left)
+
+  abbrev sum : Number
+  sum = number (plus (so-far at) (read tt (itself (height at) limit (inRange-size _ (subst T (sym in-range) tt)))))
 
 mul-right : tie.Need-mul-right Inv-loop μ-loop
 mul-right c = omega arith
@@ -66,7 +101,8 @@ mul-top : tie.Need-mul-top Inv-loop μ-loop
 mul-top c = omega arith
 
 loop-holds : tie.Need-loop-holds Inv-loop μ-loop
-loop-holds c = (omega arith, below-none _)
+unfolding total
+loop-holds c = (omega arith, below-none _, refl)
 
 mul-if1 : tie.Need-mul-if1 Inv-loop μ-loop
 mul-if1 c = omega arith
@@ -82,7 +118,7 @@ returns c =
     let p = c .before .before .before in
     let a = p .before .before .before .args in
     let s = survey (a .xs .now) (a .ys .now) (a .zs .now) in
-    first (a .m) (a .n) s (p .loop .i) _ (p .loop .inv .1) (c .before .before .loop-test .taken) (past-right (a .m) (a .n) s (p .loop .i) (c .if1 .taken))
+    first (a .m) (a .n) s (p .loop .i) _ _ (p .loop .inv .1) (c .before .before .loop-test .taken) (past-right (a .m) (a .n) s (p .loop .i) (c .if1 .taken))
 
 mul-if2 : tie.Need-mul-if2 Inv-loop μ-loop
 mul-if2 c = omega arith
@@ -98,26 +134,29 @@ returns-2 c =
     let p = c .before .before .before .before .before in
     let a = p .before .before .before .args in
     let s = survey (a .xs .now) (a .ys .now) (a .zs .now) in
-    first (a .m) (a .n) s (p .loop .i) _ (p .loop .inv .1) (c .before .before .before .before .loop-test .taken)
+    first (a .m) (a .n) s (p .loop .i) _ _ (p .loop .inv .1) (c .before .before .before .before .loop-test .taken)
     (past-top (a .m) (a .n) s (p .loop .i) (c .before .before .if1 .left) (c .if2 .taken))
 
-mul-in-range : tie.Need-mul-in-range Inv-loop μ-loop
-mul-in-range c = omega arith
+mul-z : tie.Need-mul-z Inv-loop μ-loop
+mul-z c = omega arith
 
-shared-slice-copy-out-in-range : tie.Need-shared-slice-copy-out-in-range Inv-loop μ-loop
-shared-slice-copy-out-in-range c = omega arith
+shared-slice-copy-out-z : tie.Need-shared-slice-copy-out-z Inv-loop μ-loop
+shared-slice-copy-out-z c = omega arith
 
 in-range-requires : tie.Need-in-range-requires Inv-loop μ-loop
-in-range-requires c κs = search needs
+in-range-requires c κs = tt
 
 returns-3 : tie.Need-returns-3 Inv-loop μ-loop
 returns-3 c =
-    let q = c .before .before .before in
-    let p = q .before .before .before .before .before in
-    let a = p .before .before .before .args in
-    let s = survey (a .xs .now) (a .ys .now) (a .zs .now) in
-    first (a .m) (a .n) s (p .loop .i) _ (p .loop .inv .1) (q .before .before .before .before .loop-test .taken)
-    (out (a .m) (a .n) s (p .loop .i) (q .before .before .if1 .left) (q .if2 .left) (sym (height-tested (c .before)) ∙ not-true _ (c .if3 .taken)))
+    let z = c .before .before in
+    let q = z .before in
+    let p = turn z .before in
+    let a = given z .args in
+    first (a .m) (a .n) (points z) (p .loop .i) _ _ (p .loop .inv .1) (q .before .before .before .before .loop-test .taken)
+    (out (a .m) (a .n) (points z) (p .loop .i) (q .before .before .if1 .left) (q .if2 .left) (sym (height-tested (c .before)) ∙ not-true _ (c .if3 .taken)))
+
+add-sum : tie.Need-add-sum Inv-loop μ-loop
+add-sum c = fits tt (sum c .held)
 
 add-i : tie.Need-add-i Inv-loop μ-loop
 add-i c = omega arith
@@ -127,20 +166,21 @@ loop-less c = omega arith
 
 loop-again : tie.Need-loop-again Inv-loop μ-loop
 loop-again c =
-    let q = c .before .before .before in
-    let p = q .before .before .before .before .before in
-    let a = p .before .before .before .args in
-    let s = survey (a .xs .now) (a .ys .now) (a .zs .now) in (
+    let z = at c in
+    let q = z .before in
+    let p = turn z .before in
+    let a = given z .args in (
       omega arith,
-      below-more _ _ (p .loop .inv .1) (fine (a .m) (a .n) s (p .loop .i) (q .before .before .if1 .left) (q .if2 .left) (sym (height-tested (c .before)) ∙ not-false _ (c .if3 .left))),
+      below-more _ _ (p .loop .inv .1) (fine (a .m) (a .n) (points z) (p .loop .i) (q .before .before .if1 .left) (q .if2 .left) (in-range c)),
+      read tt (sum c .held) .is ∙ sym (total-more (p .loop .i) (a .zs .now)),
     )
 
 returns-4 : tie.Need-returns-4 Inv-loop μ-loop
-unfolding pointsCheck
+unfolding pointsCheck answer
 returns-4 c =
     let p = c .before in
     let last : length (p .before .before .before .args .xs .now) ≡ p .loop .i = omega arith in
-    rw last (sym (firstOf-all _ _ (p .loop .inv .1)))
+    rw (last, firstOf-all _ _ (p .loop .inv .1)) (ap accepted (p .loop .inv .2))
 
 pub points-spec : {M : Type 1} → statement M
 points-spec =
@@ -159,10 +199,11 @@ points-spec =
     shared-slice-read-if2
     cast-if2
     returns-2
-    mul-in-range
-    shared-slice-copy-out-in-range
+    mul-z
+    shared-slice-copy-out-z
     in-range-requires
     returns-3
+    add-sum
     add-i
     loop-less
     loop-again

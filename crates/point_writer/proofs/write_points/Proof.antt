@@ -18,6 +18,7 @@ use Rattle.rules.specs.Laws.Checks.{call-refused, call-accepted}
 use Rattle.rules.specs.Laws.Passed.{cellsAt-most, Surveyed, survey-passed, cellsAt-shifted}
 use Rattle.rules.specs.Laws.PointFile.{recordOf}
 use Rattle.point_writer.specs.Written.{headBytes}
+use Rattle.point_checks.specs.Told as points
 use Rattle.point_writer.proofs.write_points.Statement.{statement}
 use Rattle.point_writer.proofs.write_points.Tie as tie
 
@@ -106,7 +107,7 @@ shl-points-2 c = omega (arith, surveyed (c .before))
 points-requires : tie.Need-points-requires
 points-requires c κs =
     let b = surveyed (c .before) in
-    (shifted-most _ _ (b .sides .1) (b .levels-most), shifted-most _ _ (b .sides .3) (b .levels-most), b .as-many-y, b .as-many-z)
+    (shifted-most _ _ (b .sides .1) (b .levels-most), shifted-most _ _ (b .sides .3) (b .levels-most), b .as-many-y, b .as-many-z, b .points-most)
 
 enum-known-r-2 : tie.Need-enum-known-r-2
 enum-known-r-2 c = search needs
@@ -116,7 +117,7 @@ returns-3 c =
     let q = c .before .before .before in
     let p = q .before in
     at-point _ (given (start (p .before))) _ (passed (p .before)) (p .if1 .left) _
-    (sym (at-level _ _ (surveyed (p .before))) ∙ sym (q .points .ensures) ∙ ap check (c .before .r2 .given .1))
+    (sym (at-level _ _ (surveyed (p .before))) ∙ points.refused _ _ (q .points .ensures) (c .before .r2 .given .1))
 
 enum-told-2 : tie.Need-enum-told-2
 enum-told-2 c = search needs
@@ -148,7 +149,7 @@ returns-4 c =
     let q = told .before .before in
     let p = q .before in
     written _ (given (start (p .before))) _ (passed (p .before)) (p .if1 .left)
-    (sym (at-level _ _ (surveyed (p .before))) ∙ sym (q .points .ensures) ∙ ap check (told .enum-told2 .given .1))
+    (sym (at-level _ _ (surveyed (p .before))) ∙ points.summed _ _ (q .points .ensures) (told .enum-told2 .given .1) .0)
     (begun .put-head .ensures) (last .put-points .ensures)
 
 pub write-points-spec : {M : Type 1} → statement M
