@@ -11,7 +11,7 @@ use lib.ListN.{length}
 use Rattle.algebra.specs.Table.{over, joined-same}
 use Rattle.rules.specs.Grid.{controls, control}
 use Rattle.rules.specs.Fit.{Shape, columns, rows, Survey, pointCount, singleLattice, differenceCheck, inLevelsCheck}
-use Rattle.rules.specs.Answers.{Refusal, require, _then_, Answer, accepted, refused, Outcome, outcome}
+use Rattle.rules.specs.Answers.{Refusal, Check, require, _then_, Answer, accepted, refused, Outcome, outcome}
 use Rattle.rules.specs.Calls.{CellCounts, Lent, K, roomCheck, lentCheck, fitCheck, fitCall}
 use Rattle.rules.specs.Bytes.{bytesOf, valueBytes}
 use Rattle.rules.specs.LatticeFile.{LH, LR, LE, rowRecord, latticeFile, rowLength, rowStart, latticeFileLength}
@@ -70,14 +70,19 @@ module _ {a : Shape} {s : Survey} (t : Taken a s) (w : Lent) (lattice : 361 ≡ 
       ∙ then-none _ _ lent-met
       ∙ then-none _ _ (placed-pass 16 (columns a (a .h)) (rows a (a .h)) s (t .writable .placed))
 
+  -- so the answer is what the fit's whole check decides
+  answer-of-fit : answerText a s ≡ written (fitCheck a s w) a s
+  unfolding answerText
+  answer-of-fit = ap (λ (judged : Check). written judged a s) (sym fit-is)
+
   module _ {told : Answer CellCounts} {left : Lent} (fitted : outcome told left ≡ fitCall a s w) where
     answered-by : told ≡ fitCall a s w .answered
     answered-by = ap (λ (o : Outcome CellCounts Lent). o .answered) fitted
 
     -- the fit is refused by r
     pub refusal : (r : Refusal) → told ≡ refused r → refusedLine r ≡ answerText a s
-    unfolding answerText written
-    refusal r e = rw (← fit-is, fit-refused a s w r (sym answered-by ∙ e)) refl
+    unfolding written
+    refusal r e = rw (answer-of-fit, fit-refused a s w r (sym answered-by ∙ e)) refl
 
     -- the fit is accepted with m by n cells
     module _ (m n : ℕ) (e : told ≡ accepted (record { m = m; n = n })) where
@@ -97,8 +102,8 @@ module _ {a : Shape} {s : Survey} (t : Taken a s) (w : Lent) (lattice : 361 ≡ 
           (omega arith, omega arith, controls-most p q, file-most p q)
 
       answer-is : answerText a s ≡ latticeFile m n (singleLattice a s)
-      unfolding answerText written
-      answer-is = rw (← fit-is, fine .unrefused, across, up) refl
+      unfolding written
+      answer-is = rw (answer-of-fit, fine .unrefused, across, up) refl
 
       pub file-is : latticeFile m n (left .lattice) ≡ answerText a s
       file-is =

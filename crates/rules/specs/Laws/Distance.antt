@@ -1,5 +1,5 @@
 -- Demand 3 is true of every fit that the rules accept.
-use mathlib.Core.Path.{_≡_, refl, sym, ap, _∙_}
+use mathlib.Core.Path.{_≡_, refl, sym, ap, subst, _∙_}
 use mathlib.Core.Option.{none}
 use mathlib.Core.List.{List, [], _∷_}
 use Prim.Native.Nat.{ℕ, suc, _+_, _-_, _*_, _^_, _≤_}
@@ -177,8 +177,9 @@ module _ (a : Shape) (s : Survey) (old : List ℤ) where
     V-off =
         let v = surfaceAt (a .m0) (a .n0) x y 16 (a .h) (runningAt a (fromBase s) (a .h)) in
         let t = surfacesTo (a .m0) (a .n0) x y 16 (a .h) (levelAt a (fromBase s)) in
-        rw (lattice-surface, theT-levels a (fromBase s) x y, apart v t (base (s .zs) *ℤ pos (theD (a .h))), theD-full (a .h))
-        (surface-off (a .m0) (a .n0) x y (levelAt a (fromBase s)) (runningAt a (fromBase s)) (fit-levels a (fromBase s)) 16 (a .h) i)
+        let off = surface-off (a .m0) (a .n0) x y (levelAt a (fromBase s)) (runningAt a (fromBase s)) (fit-levels a (fromBase s)) 16 (a .h) i in
+        rw (lattice-surface, theT-levels a (fromBase s) x y)
+        (subst (λ d. natAbs (pos 2 *ℤ d) ≤ a .h * theD (a .h)) (sym (apart v t (base (s .zs) *ℤ pos (theD (a .h))))) (rw (theD-full (a .h)) off))
       where
         apart : (v t b : ℤ) → v +ℤ b -ℤ (t +ℤ b) ≡ v -ℤ t
         apart v t b = solve (var 0 ⊞ var 2 ⊟ (var 1 ⊞ var 2)) (var 0 ⊟ var 1) (v ∷ t ∷ b ∷ []) tt
