@@ -1,5 +1,5 @@
 -- What an accepted slope promises beyond its equation with the rules: along each axis it is within 750/U + 1/2 nanometres of the exact slope, and 0 on level ground.
-use mathlib.Core.Path.{_≡_, sym, ap, _∙_}
+use mathlib.Core.Path.{_≡_, sym, ap, subst, _∙_}
 use mathlib.Core.List.{List}
 use Prim.Native.Nat.{ℕ, _+_, _*_, _<_}
 use lib.IntN.{ℤ, pos}
@@ -29,10 +29,10 @@ module _ (m n U : ℕ) (l : List ℤ) (x y : ℕ) (r : Sloped) (s : Slopes) (rul
 
   -- 2 |12U⁶ · slope - 1,000 · sum| ≤ 12U⁶ + 18,000U⁵
   pub near-slopeX : SlopeClose U (s .along-x) (exactSlopeX U m n (control m l) x y)
-  near-slopeX = rw (← ap (λ (b : Slopes). b .along-x) slopes-are) (slopeX-distance U m n x y on (control m l))
+  near-slopeX = let S = exactSlopeX U m n (control m l) x y in subst (λ v. SlopeClose U v S) (ap (λ (b : Slopes). b .along-x) slopes-are) (slopeX-distance U m n x y on (control m l))
 
   pub near-slopeY : SlopeClose U (s .along-y) (exactSlopeY U m n (control m l) x y)
-  near-slopeY = rw (← ap (λ (b : Slopes). b .along-y) slopes-are) (slopeY-distance U m n x y on (control m l))
+  near-slopeY = let S = exactSlopeY U m n (control m l) x y in subst (λ v. SlopeClose U v S) (ap (λ (b : Slopes). b .along-y) slopes-are) (slopeY-distance U m n x y on (control m l))
 
   -- where every control value is the same
   module _ (c : ℤ) (same : (i : ℕ) → i < controls m n → getD l i (pos 0) ≡ c) where

@@ -85,13 +85,15 @@ returns-3 : tie.Need-returns-3
 unfolding require _then_
 returns-3 c =
     let p = c .before .before in
-    rw (rest _ _ _ _ _ (p .before .before .before .before .row-start .ensures .0) (complete (p .before)) (p .u16-at .ensures), eq-eqb _ _ (c .before .if1 .left), ne-eqb _ _ (c .if2 .taken))
+    let s = p .before .before .before .before .row-start in
+    rw (rest _ _ _ _ _ (s .ensures .0) (complete (p .before)) (p .u16-at .ensures), eq-eqb _ _ (c .before .if1 .left), ne-eqb _ (s .result + 4) (c .if2 .taken))
 
 returns-4 : tie.Need-returns-4
 unfolding require _then_
 returns-4 c =
     let p = c .before .before in
-    rw (rest _ _ _ _ _ (p .before .before .before .before .row-start .ensures .0) (complete (p .before)) (p .u16-at .ensures), eq-eqb _ _ (c .before .if1 .left), eq-eqb _ _ (c .if2 .left))
+    let s = p .before .before .before .before .row-start in
+    rw (rest _ _ _ _ _ (s .ensures .0) (complete (p .before)) (p .u16-at .ensures), eq-eqb _ _ (c .before .if1 .left), eq-eqb _ (s .result + 4) (c .if2 .left))
 
 pub end-spec : {M : Type 1} → statement M
 end-spec =

@@ -49,14 +49,14 @@ unfolding require
 returns-3 c =
     let a = c .before .before .before .before .before .args in
     rw
-    (complete (a .file .now) (a .s) (a .n) (a .first) (a .second) (omega arith) (omega arith), eq-eqb _ _ (c .before .before .if2 .left), ne-eqb _ _ (c .if3 .taken))
+    (complete (a .file .now) (a .s) (a .n) (a .first) (a .second) (omega arith) (omega arith), eq-eqb _ _ (c .before .before .if2 .left), ne-eqb _ (a .second) (c .if3 .taken))
 
 returns-4 : tie.Need-returns-4
 unfolding require
 returns-4 c =
     let a = c .before .before .before .before .before .args in
     rw
-    (complete (a .file .now) (a .s) (a .n) (a .first) (a .second) (omega arith) (omega arith), eq-eqb _ _ (c .before .before .if2 .left), eq-eqb _ _ (c .if3 .left))
+    (complete (a .file .now) (a .s) (a .n) (a .first) (a .second) (omega arith) (omega arith), eq-eqb _ _ (c .before .before .if2 .left), eq-eqb _ (a .second) (c .if3 .left))
 
 pub record-spec : {M : Type 1} → statement M
 record-spec =

@@ -20,7 +20,7 @@ use Rattle.rules.specs.Fit.{Shape, columns, rows, unitOf, Survey, base, 
 use Rattle.rules.specs.Fit.{theD, levelSurface, theT, theSum, theV}
 use Rattle.rules.specs.Answers.{require, answer}
 use Rattle.rules.specs.Calls.{Lent, unitCheck, latticeCheck, heightCheck, heightAnswer, fitCheck, finest, fitCall}
-use Rattle.rules.specs.Demand3.{EqualCase, Close, CloseEverywhere, Demand3}
+use Rattle.rules.specs.Demand3.{Multiple, EqualCase, Close, CloseEverywhere, Demand3}
 use Rattle.rules.specs.Laws.Rounding.{near-exact}
 use Rattle.rules.specs.Laws.Passed.{Sides, sides-pass, level-sides, survey-passed, fit-accepted}
 use Rattle.rules.specs.Laws.Checks.{require-met, then-first, then-rest, then-none}
@@ -199,7 +199,7 @@ module _ (a : Shape) (s : Survey) (old : List ℤ) where
               factor = λ i j. near (levelAt a (fromBase s) k i j) d;
               is = record {
                 same = λ i j hi hj.
-                    let M = e .multiple k l i j hi hj in
+                    let M : Multiple d (levelAt a (fromBase s) k i j) = e .multiple k l i j hi hj in
                     rw (M .is, near-exact (M .factor) d (one-le-pow (a .h - k) 64 (omega arith)));
               };
             }
