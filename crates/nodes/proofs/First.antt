@@ -6,9 +6,8 @@ use native.Mathlib.Nat.{mul-pos, mul-zero, zero-mod, zero-mul, mod-eq-of-lt, mod
 use native.Mathlib.Omega.{arith}
 use borrow.Author.Tests.{le-leb, lt-leb}
 use Rattle.rules.specs.Answers.{Check, require, position, firstOf}
-use Rattle.rules.specs.Calls.{Nodes, nodes, stepOf, nodeX, nodeY, nodeCheck, nodesCheck}
+use Rattle.rules.specs.Calls.{Nodes, nodesAt, nodeX, nodeY, nodeCheck, nodesCheck}
 use Rattle.rules.specs.Laws.Checks.{firstOf-all, firstOf-at}
-use Rattle.nodes.specs.Inside.{step-positive}
 
 -- ---- steps of one axis: as many as fit between the first position and the last
 
@@ -20,9 +19,9 @@ step-inside first last step i f h =
 step-outside : (first last step : ℕ) → 0 < step → first ≤ last → last < first + step * ((last - first) / step + 1)
 step-outside first last step s f = omega (arith, lt-mul-div-succ (last - first) s)
 
-module _ (right top x0 y0 given columns rows : ℕ) where
+module _ (right top x0 y0 step columns rows : ℕ) where
   abbrev g : Nodes
-  g = nodes x0 y0 given columns rows
+  g = nodesAt x0 y0 step columns rows
 
   pub no-columns : columns ≡ 0 → none ≡ nodesCheck right top g
   unfolding nodesCheck firstOf
@@ -32,24 +31,21 @@ module _ (right top x0 y0 given columns rows : ℕ) where
   unfolding nodesCheck firstOf
   no-rows e = rw (e, mul-zero columns)
 
-  module _ {step : ℕ} (is : step ≡ stepOf given) (across : 0 < columns) (down : 0 < rows) where
-    some-step : 0 < step
-    some-step = rw is (step-positive given)
-
+  module _ (some-step : 0 < step) (across : 0 < columns) (down : 0 < rows) where
     node : ℕ → Check
     node = nodeCheck right top g
 
     node-fine : (q : ℕ) → x0 + step * (q % columns) ≤ right → y0 + step * (q / columns) ≤ top → node q ≡ none
     unfolding node nodeCheck require nodeX nodeY
-    node-fine q h k = rw (← is, le-leb (x0 + step * (q % columns)) right h, le-leb (y0 + step * (q / columns)) top k)
+    node-fine q h k = rw (le-leb (x0 + step * (q % columns)) right h, le-leb (y0 + step * (q / columns)) top k)
 
     past-right : (q : ℕ) → right < x0 + step * (q % columns) → node q ≡ some (position q)
     unfolding node nodeCheck require nodeX nodeY
-    past-right q h = rw (← is, lt-leb (x0 + step * (q % columns)) right h)
+    past-right q h = rw (lt-leb (x0 + step * (q % columns)) right h)
 
     past-top : (q : ℕ) → x0 + step * (q % columns) ≤ right → top < y0 + step * (q / columns) → node q ≡ some (position q)
     unfolding node nodeCheck require nodeX nodeY
-    past-top q h k = rw (← is, le-leb (x0 + step * (q % columns)) right h, lt-leb (y0 + step * (q / columns)) top k)
+    past-top q h k = rw (le-leb (x0 + step * (q % columns)) right h, lt-leb (y0 + step * (q / columns)) top k)
 
     -- node q is the first that is refused
     first : (q : ℕ) → q < columns * rows → ((i : ℕ) → i < q → node i ≡ none) → node q ≡ some (position q) → some (position q) ≡ nodesCheck right top g

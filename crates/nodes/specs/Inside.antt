@@ -1,30 +1,15 @@
 -- What the checks of nodes have shown where they refuse nothing.
-use mathlib.Core.Path.{_≡_, refl}
+use mathlib.Core.Path.{_≡_}
 use mathlib.Core.Bool.{_&&_}
 use mathlib.Core.Option.{none}
-use Prim.Native.Nat.{ℕ, zero, suc, _+_, _*_, _≤_, _<_}
-use native.Mathlib.Nat.{mod-eq-of-lt, mul-comm, mul-div-cancel, mul-le-mul-right, lt-of-lt-of-le, not-suc-le-zero}
+use Prim.Native.Nat.{ℕ, _+_, _*_, _≤_, _<_}
+use native.Mathlib.Nat.{mod-eq-of-lt, mul-comm, mul-div-cancel, mul-le-mul-right, lt-of-lt-of-le}
 use native.Mathlib.Omega.{arith}
 use lib.Dec.{leb, leb→le}
 use mir.Facts.{and-yes}
 use Rattle.rules.specs.Answers.{size, position}
-use Rattle.rules.specs.Calls.{Nodes, defaultStep, stepOf, nodeX, nodeY, sizeCheck, nodeCheck, nodesCheck}
+use Rattle.rules.specs.Calls.{Nodes, nodeX, nodeY, sizeCheck, nodeCheck, nodesCheck}
 use Rattle.rules.specs.Laws.Checks.{required, firstOf-none}
-
--- ---- steps
-
--- with a step above 0 nothing depends on the default
-pub step-given : (s : ℕ) → 0 < s → stepOf s ≡ s
-unfolding stepOf
-step-given zero h = absurd (not-suc-le-zero h)
-step-given (suc s) h = refl
-
-pub step-positive : (s : ℕ) → 0 < stepOf s
-unfolding stepOf defaultStep
-step-positive zero = omega arith
-step-positive (suc s) = omega arith
-
--- ---- what they have shown
 
 pub size-passed : (step columns rows : ℕ) → sizeCheck step columns rows ≡ none → (columns ≤ 8_193) × (rows ≤ 8_193)
 unfolding sizeCheck
@@ -35,8 +20,8 @@ size-passed step columns rows h =
 
 -- all nodes lie at most at right and top, if there are any
 pub record NodesInside (right top : ℕ) (g : Nodes) : Type 0 where
-  pub along-x : 0 < g .down → (c : ℕ) → c < g .across → g .x0 + stepOf (g .step) * c ≤ right
-  pub along-y : 0 < g .across → (j : ℕ) → j < g .down → g .y0 + stepOf (g .step) * j ≤ top
+  pub along-x : 0 < g .down → (c : ℕ) → c < g .across → g .x0 + g .step * c ≤ right
+  pub along-y : 0 < g .across → (j : ℕ) → j < g .down → g .y0 + g .step * j ≤ top
 
 pub nodes-inside : (right top : ℕ) (g : Nodes) → nodesCheck right top g ≡ none → NodesInside right top g
 unfolding nodesCheck nodeCheck nodeX nodeY

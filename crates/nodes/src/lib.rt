@@ -1,7 +1,7 @@
 // The nodes of a raster: columns × rows positions from (x0, y0) at one step, row by row, and their checks.
 ghost use mathlib.Core.Path.{_≡_};
-ghost use Prim.Native.Nat.{_≤_};
-ghost use Rattle.rules.specs.Calls.{nodes, stepOf, sizeCheck, nodesCheck};
+ghost use Prim.Native.Nat.{_≤_, _<_};
+ghost use Rattle.rules.specs.Calls.{nodesAt, defaultStep, stepOf, sizeCheck, nodesCheck};
 ghost use Rattle.answers.specs.Cause.{check};
 use answers::Refusal;
 use answers::Verdict;
@@ -9,9 +9,9 @@ use answers::Verdict;
 // "Step 0 stands for 16"
 const DEFAULT_STEP: usize = 16;
 
-// the step that a caller's step stands for
+// what a caller's step stands for; never 0
 pub fn step_of(step: usize) -> usize
-    ensures { λ r. ⌜ r ≡ stepOf step ⌝ }
+    ensures { λ r. ⌜ (r ≡ stepOf defaultStep step) × (0 < r) ⌝ }
 {
     if step == 0 { DEFAULT_STEP } else { step }
 }
@@ -42,8 +42,8 @@ pub fn positions(
     columns: usize,
     rows: usize,
 ) -> Verdict
-    requires { ⌜ (right ≤ 262_144) × (top ≤ 262_144) × (columns ≤ 8_193) × (rows ≤ 8_193) ⌝ }
-    ensures { λ r. ⌜ check r ≡ nodesCheck right top (nodes x0 y0 step columns rows) ⌝ }
+    requires { ⌜ (right ≤ 262_144) × (top ≤ 262_144) × (0 < step) × (columns ≤ 8_193) × (rows ≤ 8_193) ⌝ }
+    ensures { λ r. ⌜ check r ≡ nodesCheck right top (nodesAt x0 y0 step columns rows) ⌝ }
 {
     if columns == 0 {
         return Verdict::Fine;
@@ -57,12 +57,11 @@ pub fn positions(
     if top < y0 {
         return Verdict::Refused(Refusal::Position(0));
     }
-    let by = step_of(step);
-    let across = (right - x0) / by + 1;
+    let across = (right - x0) / step + 1;
     if across < columns {
         return Verdict::Refused(Refusal::Position(across));
     }
-    let down = (top - y0) / by + 1;
+    let down = (top - y0) / step + 1;
     if down < rows {
         return Verdict::Refused(Refusal::Position(down * columns));
     }

@@ -1,6 +1,6 @@
 // Rasters: the heights of columns × rows nodes, row by row, worked in strips of 64 columns.
 ghost use mathlib.Core.Path.{_≡_};
-ghost use Prim.Native.Nat.{_*_, min};
+ghost use Prim.Native.Nat.{_*_, _<_, min};
 ghost use mathlib.Core.List.{List};
 ghost use lib.IntN.{ℤ};
 ghost use lib.ListN.{length};
@@ -35,14 +35,13 @@ fn raster_within(
     rows: usize,
     output: &mut [i64],
 )
-    requires { ⌜ Samplable m n e (now lattice) (calls.nodes x0 y0 step columns rows) (length (now output)) ⌝ }
-    ensures { λ _. ⌜ now (output .exit) ≡ over (tabulate (columns * rows) (nodeHeight m n e (now (lattice .entry)) (calls.nodes x0 y0 step columns rows))) (now (output .entry)) ⌝ }
+    requires { ⌜ Samplable m n e (now lattice) (calls.nodesAt x0 y0 step columns rows) (length (now output)) ⌝ }
+    ensures { λ _. ⌜ now (output .exit) ≡ over (tabulate (columns * rows) (nodeHeight m n e (now (lattice .entry)) (calls.nodesAt x0 y0 step columns rows))) (now (output .entry)) ⌝ }
 {
     if rows == 0 {
         return;
     }
     let unit = 1 << e;
-    let by = nodes::step_of(step);
     let mut column = 0;
     while column < columns {
         let w = lesser(columns - column, 64);
@@ -53,7 +52,7 @@ fn raster_within(
             e,
             x0,
             y0,
-            step: by,
+            step,
             columns,
             column,
             w,
@@ -76,7 +75,8 @@ fn samplable(
     rows: usize,
     room: usize,
 ) -> Readiness
-    ensures { λ r. ⌜ ((d : List ℤ) → length d ≡ room → Tells (calls.rasterCheck m n unit (now (lattice .entry)) (calls.nodes x0 y0 step columns rows) d) unit (λ e. Samplable m n e (now (lattice .entry)) (calls.nodes x0 y0 step columns rows) room) r) ⌝ }
+    requires { ⌜ 0 < step ⌝ }
+    ensures { λ r. ⌜ ((d : List ℤ) → length d ≡ room → Tells (calls.rasterCheck m n unit (now (lattice .entry)) (calls.nodesAt x0 y0 step columns rows) d) unit (λ e. Samplable m n e (now (lattice .entry)) (calls.nodesAt x0 y0 step columns rows) room) r) ⌝ }
 {
     let grid = checks::gridded(m, n, unit);
     let Readiness::Of(_) = grid else {
@@ -111,10 +111,11 @@ pub fn raster(
 ) -> CountTold
     ensures { λ r. ⌜ outcome (told r) (now (output .exit)) ≡ calls.rasterCall m n unit (now (lattice .entry)) (calls.nodes x0 y0 step columns rows) (now (output .entry)) ⌝ }
 {
+    let by = nodes::step_of(step);
     let room = output.len();
-    match samplable(m, n, unit, lattice, x0, y0, step, columns, rows, room) {
+    match samplable(m, n, unit, lattice, x0, y0, by, columns, rows, room) {
         Readiness::Of(e) => {
-            raster_within(m, n, e, lattice, x0, y0, step, columns, rows, output);
+            raster_within(m, n, e, lattice, x0, y0, by, columns, rows, output);
             CountTold::Count(columns * rows)
         }
         Readiness::Refused(r) => CountTold::Refused(r),

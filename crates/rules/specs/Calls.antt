@@ -96,15 +96,7 @@ refineCall m n lattice output =
 
 -- ---- raster
 
--- "Step 0 stands for 16"
-unfoldable pub defaultStep : ℕ
-defaultStep = 16
-
-unfoldable pub stepOf : ℕ → ℕ
-stepOf zero = defaultStep
-stepOf (suc s) = suc s
-
--- what a raster is asked for: "columns × rows nodes from (x0, y0) at one step"
+-- "columns × rows nodes from (x0, y0) at one step"
 pub record Nodes : Type 0 where
   pub x0 : ℕ
   pub y0 : ℕ
@@ -112,15 +104,28 @@ pub record Nodes : Type 0 where
   pub across : ℕ
   pub down : ℕ
 
+abbrev pub nodesAt : ℕ → ℕ → ℕ → ℕ → ℕ → Nodes
+nodesAt x0 y0 step across down = record { x0 = x0; y0 = y0; step = step; across = across; down = down }
+
+-- "Step 0 stands for 16"
+unfoldable pub defaultStep : ℕ
+defaultStep = 16
+
+-- what a caller's step stands for, where 0 stands for d
+unfoldable pub stepOf : ℕ → ℕ → ℕ
+stepOf d zero = d
+stepOf d (suc s) = suc s
+
+-- the nodes that a caller asks for
 abbrev pub nodes : ℕ → ℕ → ℕ → ℕ → ℕ → Nodes
-nodes x0 y0 step across down = record { x0 = x0; y0 = y0; step = step; across = across; down = down }
+nodes x0 y0 step across down = nodesAt x0 y0 (stepOf defaultStep step) across down
 
 -- the position of node q; nodes go "row by row"
 unfoldable pub nodeX : Nodes → ℕ → ℕ
-nodeX g q = g .x0 + stepOf (g .step) * (q % g .across)
+nodeX g q = g .x0 + g .step * (q % g .across)
 
 unfoldable pub nodeY : Nodes → ℕ → ℕ
-nodeY g q = g .y0 + stepOf (g .step) * (q / g .across)
+nodeY g q = g .y0 + g .step * (q / g .across)
 
 -- 8: "step above 8,192, or columns or rows above 8,193"
 unfoldable pub sizeCheck : ℕ → ℕ → ℕ → Check

@@ -7,6 +7,7 @@ pub mod Rounding
 pub mod Surface
 pub mod Slope
 pub mod TwoScale
+pub mod Raster
 pub mod Fit
 pub mod Base
 pub mod Levels

@@ -22,6 +22,9 @@ fills : (m n U : ℕ) (l : List ℤ) (g : Nodes) (d : List ℤ) (e : ℕ) {out :
 unfolding rasterCall nodeHeight
 fills m n U l g d e u p q = ap (outcome _) (q ∙ rw u refl) ∙ call-accepted _ _ _ d p
 
+step-of-requires : tie.Need-step-of-requires
+step-of-requires c κs = search needs
+
 samplable-requires : tie.Need-samplable-requires
 samplable-requires c κs = search needs
 
@@ -32,13 +35,13 @@ raster-within-requires : tie.Need-raster-within-requires
 raster-within-requires c κs =
     let p = c .before .before in
     let s = p .before .before in
-    s .samplable .ensures (s .before .args .output .now) refl .behind _ (p .e .given .1) .1
+    s .samplable .ensures (s .before .before .args .output .now) refl .behind _ (p .e .given .1) .1
 
-mul-t19 : tie.Need-mul-t19
-mul-t19 c =
+mul-t20 : tie.Need-mul-t20
+mul-t20 c =
     let p = c .before .before .before .before in
     let s = p .before .before in
-    omega (arith, s .samplable .ensures (s .before .args .output .now) refl .behind _ (p .e .given .1) .1 .fits, s .before .good)
+    omega (arith, s .samplable .ensures (s .before .before .args .output .now) refl .behind _ (p .e .given .1) .1 .fits, s .before .before .good)
 
 enum-known-r : tie.Need-enum-known-r
 enum-known-r c = search needs
@@ -50,23 +53,26 @@ returns : tie.Need-returns
 returns c =
     let p = c .before .before .before .before in
     let s = p .before .before in
-    let t = s .samplable .ensures (s .before .args .output .now) refl in
-    fills _ _ _ _ _ _ _ (t .behind _ (p .e .given .1) .0) (exponent-check t (p .e .given .1)) (c .before .raster-within .ensures)
+    let t = s .samplable .ensures (s .before .before .args .output .now) refl in
+    rw (← s .before .step-of .ensures .0)
+    (fills _ _ _ _ _ _ _ (t .behind _ (p .e .given .1) .0) (exponent-check t (p .e .given .1)) (c .before .raster-within .ensures))
 
 returns-2 : tie.Need-returns-2
 unfolding rasterCall
 returns-2 c =
     let s = c .before .before .before in
-    call-refused _ _ _ _ _ (refusal-check (s .samplable .ensures (s .before .args .output .now) refl) (c .before .r .given .1))
+    rw (← s .before .step-of .ensures .0)
+    (call-refused _ _ _ _ _ (refusal-check (s .samplable .ensures (s .before .before .args .output .now) refl) (c .before .r .given .1)))
 
 pub raster-spec : {M : Type 1} → statement M
 raster-spec =
     tie.close
     (tie.spec
+    step-of-requires
     samplable-requires
     enum-known-e
     raster-within-requires
-    mul-t19
+    mul-t20
     enum-known-r
     same-length
     returns

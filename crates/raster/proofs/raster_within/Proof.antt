@@ -11,20 +11,17 @@ use Rattle.raster.proofs.raster_within.Statement.{statement}
 use Rattle.raster.proofs.raster_within.Tie as tie
 
 abbrev Inv-loop : tie.InvT-loop
-Inv-loop m n e lattice x0 y0 step columns rows output₀ unit by column₀ output column =
-    (column ≤ columns) × Striped columns rows 0 column (gridHeight m n e lattice x0 y0 by) output₀ output
+Inv-loop m n e lattice x0 y0 step columns rows output₀ unit column₀ output column =
+    (column ≤ columns) × Striped columns rows 0 column (gridHeight m n e lattice x0 y0 step) output₀ output
 
 abbrev μ-loop : tie.MeasureT-loop
-μ-loop m n e lattice x0 y0 step columns rows output₀ unit by column₀ output column = columns - column
+μ-loop m n e lattice x0 y0 step columns rows output₀ unit column₀ output column = columns - column
 
 returns : tie.Need-returns Inv-loop μ-loop
 returns c = no-nodes _ _ _ _ (c .if1 .taken)
 
 shl-unit : tie.Need-shl-unit Inv-loop μ-loop
 shl-unit c = omega (arith, c .before .pre .ground .grid .e-most)
-
-step-of-requires : tie.Need-step-of-requires Inv-loop μ-loop
-step-of-requires c κs = search needs
 
 loop-holds : tie.Need-loop-holds Inv-loop μ-loop
 loop-holds c = (omega arith, unchanged _ _ _ _ _ _ (λ j c h k n. not-suc-le-zero n))
@@ -38,14 +35,13 @@ lesser-requires c κs = search needs
 whole-strip-requires : tie.Need-whole-strip-requires Inv-loop μ-loop
 whole-strip-requires c κs =
     let t = c .before .before .before in
-    let p = t .before in
-    let s = p .before .before .pre in
+    let s = t .before .before .pre in
     let l = c .before .before .loop-test .taken in
     let w = c .before .lesser .ensures in
-    (strip-inside s (p .step-of .ensures) (omega arith) _ l w, s .ground, strip-room s (p .step-of .ensures) (omega arith) _ l w (t .loop .inv .1 .same-length))
+    (strip-inside s (omega arith) _ l w, s .ground, strip-room s (omega arith) _ l w (t .loop .inv .1 .same-length))
 
 add-column : tie.Need-add-column Inv-loop μ-loop
-add-column c = omega (arith, c .before .before .before .lesser .ensures, c .before .before .before .before .before .before .before .before .fits .columns)
+add-column c = omega (arith, c .before .before .before .lesser .ensures, c .before .before .before .before .before .before .before .fits .columns)
 
 loop-less : tie.Need-loop-less Inv-loop μ-loop
 loop-less c = omega (arith, c .before .before .before .lesser .ensures, c .before .before .before .before .loop-test .taken)
@@ -60,10 +56,9 @@ same-length c = c .before .loop .inv .1 .same-length
 
 returns-2 : tie.Need-returns-2 Inv-loop μ-loop
 returns-2 c =
-    let p = c .before .before in
-    let s = p .before .before in
+    let s = c .before .before .before in
     let last : c .before .loop .column ≡ s .args .columns = omega arith in
-    all-nodes (s .pre) (p .step-of .ensures) refl (rw last at (c .before .loop .inv .1))
+    all-nodes (s .pre) refl (rw last at (c .before .loop .inv .1))
 
 pub raster-within-spec : {M : Type 1} → statement M
 raster-within-spec =
@@ -73,7 +68,6 @@ raster-within-spec =
     μ-loop
     returns
     shl-unit
-    step-of-requires
     loop-holds
     sub-lesser
     lesser-requires

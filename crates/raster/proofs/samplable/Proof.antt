@@ -164,7 +164,7 @@ positions-requires : tie.Need-positions-requires
 positions-requires c κs =
     let p = second c in
     let b = behind (first p) in
-    (last-fits _ _ (b .0) (b .1 .e-most) (b .1 .m-most), last-fits _ _ (b .0) (b .1 .e-most) (b .1 .n-most), sides p .0, sides p .1)
+    (last-fits _ _ (b .0) (b .1 .e-most) (b .1 .m-most), last-fits _ _ (b .0) (b .1 .e-most) (b .1 .n-most), omega arith, sides p .0, sides p .1)
 
 enum-known-r-3 : tie.Need-enum-known-r-3
 enum-known-r-3 c = search needs
