@@ -256,6 +256,7 @@ static job *offended_job(double part)
     return j;
 }
 
+/* From edge to edge. */
 static job *raster_job(size_t cells, size_t step)
 {
     job *j = new_job(RASTER, cells, cells);
@@ -263,7 +264,7 @@ static job *raster_job(size_t cells, size_t step)
 
     v[UNIT] = 16;
     v[STEP] = step;
-    v[COLUMNS] = v[ROWS] = 16 * cells / step + 1;
+    v[COLUMNS] = v[ROWS] = 16 * cells / (step == 0 ? CURLEW_DEFAULT_STEP : step) + 1;
     lend_lattice(j);
     lend(j, VALUES, v[COLUMNS] * v[ROWS]);
     return j;
@@ -377,6 +378,7 @@ static void calls_table(void)
     line("height, 512 x 512, the middle value is", offended_job(0.5));
     line("height, 512 x 512, the last value is", offended_job(1));
     line("raster, 2,049 x 2,049 nodes of 512 x 512", raster_job(512, 4));
+    line("raster, step 0, 1,025 x 1,025 nodes of 512 x 512", raster_job(512, 0));
     line("refine, 256 x 256 to 512 x 512", refine_job(256));
     line("write_lattice, 512 x 512 (2,123,870 bytes)", write_lattice_job(512));
     line("read_lattice, 512 x 512", reading(write_lattice_job(512)));

@@ -4,7 +4,7 @@
  *
  *     host POINTS [STEP [LATTICE [SIZE [SIZE_Y]]]]
  *
- * POINTS is a point file (tools/points makes one from a CSV file), STEP the raster's step in positions (16 where it is not given),
+ * POINTS is a point file (tools/points makes one from a CSV file), STEP the raster's step in positions (8 where it is not given),
  * LATTICE the name of a lattice file to write (tools/relief draws it), or - for none. SIZE and SIZE_Y are the metres of a position
  * along x and along y, as tools/points was given --size and --size-y (SIZE for both where SIZE_Y is not given): a point file does
  * not say them. With them the steepest fall is the steepest on the ground, and in per cent; without them it is per position.
@@ -22,7 +22,6 @@
 #include <string.h>
 
 #define UNIT 16                     /* the lattice that a fit leaves is read with U = 16 */
-#define DEFAULT_STEP 16
 #define MOST_POINTS 65535
 #define TABLE_COLUMNS 8             /* the printed table has at most so many columns and rows */
 #define TABLE_ROWS 9
@@ -408,7 +407,7 @@ static int read_words(survey *s, int words, char **word)
     int result = DONE;
 
     s->name = word[1];
-    s->step = DEFAULT_STEP;
+    s->step = CURLEW_DEFAULT_STEP;
     s->sized = words > 4;
     s->size_x = s->size_y = 1;
     if (words > 2)

@@ -318,14 +318,19 @@ void refine_case(generator *g, size_class size)
 
 static size_t some_step(generator *g, size_t unit)
 {
-    const size_t steps[] = { 0, 1, 2, 3, 7, 16, unit, unit / 2, unit + 1, MOST_STEP, MOST_STEP - 1 };
+    const size_t steps[] = { 0, 1, 2, 3, 7, CURLEW_DEFAULT_STEP, 16, unit, unit / 2, unit + 1, MOST_STEP, MOST_STEP - 1 };
     return once_in(g, 4) ? below(g, MOST_STEP + 1) : steps[below(g, COUNT(steps))];
+}
+
+static size_t step_of(size_t step)
+{
+    return step == 0 ? CURLEW_DEFAULT_STEP : step;
 }
 
 /* Columns or rows: most often as many as fit from start to far, sometimes one too many, sometimes none. */
 static size_t some_nodes(generator *g, size_t start, size_t far, size_t step, size_t most)
 {
-    const size_t fit = (far - start) / (step == 0 ? 16 : step) + 1;
+    const size_t fit = (far - start) / step_of(step) + 1;
     const size_t nodes = fit < most ? fit : most;
 
     switch (below(g, 12)) {
@@ -358,7 +363,7 @@ static void raster_trouble(generator *g, draft *d)
         v[COLUMNS] = v[ROWS] = MOST_NODES;
         break;
     case 3:                                     /* so far outside that a later node comes round to the grid again */
-        v[once_in(g, 2) ? AT_X : AT_Y] = (size_t)0 - (v[STEP] == 0 ? 16 : v[STEP]) * below(g, 3);
+        v[once_in(g, 2) ? AT_X : AT_Y] = (size_t)0 - step_of(v[STEP]) * below(g, 3);
         break;
     default:
         height_trouble(g, d);

@@ -234,6 +234,30 @@ static void raster_example(const char *name, size_t step, uint64_t number)
     need(&d, number != 0 || (values_of(&d, VALUES)[0] == 16 && values_of(&d, VALUES)[1] == 0));
 }
 
+/* A raster of 1 by 1 cells, edge to edge with so many nodes a side. */
+static draft cell_raster(const char *name, size_t step, size_t side)
+{
+    draft d = single_value(RASTER, 1, 0, 0, 36);
+    size_t *v = d.call.number;
+
+    begin(name);
+    v[STEP] = step;
+    v[COLUMNS] = v[ROWS] = side;
+    lend(&g, &d, VALUES, side * side);
+    expect(&d, 0, 0, side * side, 0);
+    return d;
+}
+
+/* Step 0 stands for 8: E1, E3 and E2 are its nodes from corner to corner. With a given 16 the corners alone are nodes. */
+static void default_step_examples(void)
+{
+    draft d = cell_raster("raster of step 0", 0, 3);
+
+    need(&d, values_of(&d, VALUES)[0] == 16 && values_of(&d, VALUES)[4] == 8 && values_of(&d, VALUES)[8] == 1);
+    d = cell_raster("raster of step 16", 16, 2);
+    need(&d, values_of(&d, VALUES)[0] == 16 && values_of(&d, VALUES)[3] == 1);
+}
+
 static void lattice_examples(void)
 {
     height_example("E1", 0, 0, 36, 0, 16);
@@ -244,6 +268,7 @@ static void lattice_examples(void)
     refine_examples();
     raster_example("raster of step 8,192", 8192, 0);
     raster_example("raster of step 8,193", 8193, 8);
+    default_step_examples();
 }
 
 /* ---- slopes: 1 by 1 cells, the same four control values in so many rows from the first on, 0 in the others ---- */

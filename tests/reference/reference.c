@@ -1,10 +1,10 @@
 /*
- * A second implementation of document 01 and of document 02's jobs 1, 3 and 4, written from
+ * A second implementation of document 01 and of document 02's jobs 1, 3, 4 and 5, written from
  * their text: its author had document 01 and the interface reference.h, the later author of
  * the slopes that job's text too, and this file as it stood, and the authors of refusals 13
- * and 14 and of the base documents 01 and 02, the interface, this file and README.md as they
- * stood. None had the definitions, nor the library's code, nor any paper that explains them.
- * README.md says how they read what the text leaves open.
+ * and 14, of the base and of the finer default step documents 01 and 02, the interface, this
+ * file and README.md as they stood. None had the definitions, nor the library's code, nor any
+ * paper that explains them. README.md says how they read what the text leaves open.
  *
  * Compile with
  *     gcc -std=c99 -Wall -Wextra -pedantic -O3 -ffp-contract=off
@@ -31,6 +31,7 @@
 #define MAX_H 5
 #define MAX_POINTS 65535
 #define MAX_STEP 8192
+#define DEFAULT_STEP 8              /* what step 0 stands for at every U; 16 before job 5 */
 #define MAX_NODES 8193              /* columns or rows of a raster */
 #define FINEST_SHIFT 4              /* U is 1 << shift: 16 at the finest level, 512 at most */
 #define WIDEST_SHIFT 9
@@ -637,7 +638,7 @@ ref_count ref_raster(size_t m, size_t n, size_t unit, const int64_t *lattice, si
     if (nodes == 0)                 /* no node is outside, wherever x0 and y0 are */
         return (ref_count){ .count = 0 };
     if (step == 0)
-        step = 16;
+        step = DEFAULT_STEP;
     bad = first_node_outside(nodes_inside(x0, step, m << shift), nodes_inside(y0, step, n << shift),
                              columns, rows);
     if (bad < nodes)

@@ -1,7 +1,7 @@
 /*
  * A second implementation of the ground lattice of document 01, of the slopes of
- * document 02's first job, of the refusals 13 and 14 of its third and of the base of its
- * fourth, in plain C99, written from their text.
+ * document 02's first job, of the refusals 13 and 14 of its third, of the base of its
+ * fourth and of the finer default raster of its fifth, in plain C99, written from their text.
  *
  * Every call checks its arguments itself, refuses as the documents say and then
  * leaves the slices as they say. Any argument may have any value; a

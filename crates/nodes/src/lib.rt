@@ -6,8 +6,8 @@ ghost use Rattle.answers.specs.Cause.{check};
 use answers::Refusal;
 use answers::Verdict;
 
-// "Step 0 stands for 16"
-const DEFAULT_STEP: usize = 16;
+// "Step 0 now stands for 8"
+const DEFAULT_STEP: usize = 8;
 
 // what a caller's step stands for; never 0
 pub fn step_of(step: usize) -> usize

@@ -1,9 +1,11 @@
--- What an accepted raster promises beyond its equation with the rules: a height alone would be accepted at each node, and each is in range.
+-- What a raster promises beyond its equation with the rules: of an accepted one a height alone would be accepted at each node, and each is in range; at a given
+-- step it is the raster of before, when step 0 stood for 16.
 use mathlib.Core.Path.{_≡_, ap, _∙_}
 use mathlib.Core.Bool.{_&&_}
 use mathlib.Core.Option.{none}
 use mathlib.Core.List.{List}
 use Prim.Native.Nat.{ℕ, _*_, _≤_, _<_}
+use native.Mathlib.Omega.{arith}
 use lib.Dec.{leb}
 use lib.IntN.{ℤ, pos, natAbs}
 use lib.ListN.{length, getD}
@@ -11,10 +13,11 @@ use mir.Facts.{and-yes}
 use Rattle.algebra.specs.Table.{tabulate, length-tabulate, getD-tabulate, getD-over}
 use Rattle.rules.specs.Grid.{limit, inside, controls, control}
 use Rattle.rules.specs.Surface.{height}
-use Rattle.rules.specs.Answers.{require, short, position, _then_, accepted, outcome}
-use Rattle.rules.specs.Calls.{Nodes, cellsCheck, unitCheck, latticeCheck, nodeX, nodeY, sizeCheck, nodeCheck, nodesCheck, heightCheck, rasterCheck, rasterCall}
+use Rattle.rules.specs.Answers.{require, short, position, _then_, accepted, Outcome, outcome}
+use Rattle.rules.specs.Calls.{Nodes, defaultStep, nodes, cellsCheck, unitCheck, latticeCheck, nodeX, nodeY, sizeCheck, nodeCheck, nodesCheck, heightCheck, rasterCheck, rasterCall}
 use Rattle.rules.specs.Laws.Checks.{required, require-met, then-both, then-rest, firstOf-none, call-unrefused, call-value, call-after}
 use Rattle.rules.specs.Laws.Surface.{height-within}
+use Rattle.rules.specs.Laws.Raster.{rasterWhere, given-raster, given-default}
 use Rattle.heights.specs.Promises.{height-passed}
 use Rattle.answers.specs.CountTold.{told}
 use Rattle.answers.specs.declared.CountTold.{CountTold}
@@ -56,3 +59,18 @@ module _ (m n U : ℕ) (l : List ℤ) (g : Nodes) (d : List ℤ) where
     entry-in-range i h =
         let p = height-passed m n U l (nodeX g i) (nodeY g i) (node-accepted passed i (rw many h)) in
         rw (entry-height i h) (height-within U m n (nodeX g i) (nodeY g i) (p .0) (control m l) limit (p .1))
+
+-- ---- when step 0 stood for 16
+
+module _ (m n U : ℕ) (l : List ℤ) (x0 y0 across down : ℕ) (d : List ℤ) where
+  abbrev pub earlier : ℕ → Outcome ℕ (List ℤ)
+  earlier = rasterWhere m n U l x0 y0 across down d 16
+
+  -- a call at this step, and the slice that it leaves, accepted or refused
+  module _ (step : ℕ) (r : CountTold) (after : List ℤ) (rules : outcome (told r) after ≡ rasterCall m n U l (nodes x0 y0 step across down) d) where
+    pub as-earlier : 0 < step → outcome (told r) after ≡ earlier step
+    as-earlier h = rules ∙ given-raster m n U l x0 y0 across down d defaultStep 16 step h
+
+    -- "A caller that relied on 0 must give 16 explicitly, and its raster then equals the earlier one"
+    pub sixteen-for-zero : step ≡ 16 → outcome (told r) after ≡ earlier 0
+    sixteen-for-zero is = rules ∙ rw is (given-default m n U l x0 y0 across down d 16 defaultStep (omega arith))

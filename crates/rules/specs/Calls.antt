@@ -107,9 +107,9 @@ pub record Nodes : Type 0 where
 abbrev pub nodesAt : ℕ → ℕ → ℕ → ℕ → ℕ → Nodes
 nodesAt x0 y0 step across down = record { x0 = x0; y0 = y0; step = step; across = across; down = down }
 
--- "Step 0 stands for 16"
+-- "Step 0 now stands for 8", of document 02
 unfoldable pub defaultStep : ℕ
-defaultStep = 16
+defaultStep = 8
 
 -- what a caller's step stands for, where 0 stands for d
 unfoldable pub stepOf : ℕ → ℕ → ℕ

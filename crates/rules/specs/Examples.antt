@@ -1,5 +1,5 @@
--- "Table of checked examples" of document 01: E1 to E8 and the three near examples, with slopes that tell the order of their roundings and bases that tell
--- near from floor, as one computed table.
+-- "Table of checked examples" of document 01: E1 to E8 and the three near examples, with slopes that tell the order of their roundings, bases that tell
+-- near from floor and what a raster's step 0 stands for, as one computed table.
 use Prim.Native.Nat.{ℕ, zero, suc, _+_, _/_, _%_}
 use mathlib.Core.Bool.{Bool, true, false, _&&_, cond}
 use mathlib.Core.List.{List, [], _∷_}
@@ -11,6 +11,7 @@ use Rattle.rules.specs.Surface.{square, cube, numerator, denominator, ce
 use Rattle.rules.specs.Slope.{slopeNumerator, slopeDenominator, slopeAlong, slopeX, slopeY}
 use Rattle.rules.specs.Refinement.{masked, finer, finer2, refined}
 use Rattle.rules.specs.Fit.{total, nearMean, base}
+use Rattle.rules.specs.Calls.{defaultStep, stepOf, nodes, nodeX, nodeY}
 
 -- "one control value set, others 0": v in column s and row t, which are the indices (s - 1, t - 1)
 unfoldable pub single : ℕ → ℕ → ℤ → Lattice
@@ -84,9 +85,14 @@ table =
     ∷ (base (pos 1 ∷ pos 1 ∷ pos 0 ∷ []) is pos 1)
     ∷ (base (negℤ (pos 1) ∷ pos 0 ∷ negℤ (pos 1) ∷ []) is negℤ (pos 1))
     ∷ (base [] is pos 0)
+    -- "Step 0 now stands for 8": node 3 of two columns from (1, 2), at step 0 and at a given 16
+    ∷ (pos (nodeX (nodes 1 2 0 2 2) 3) is pos 9)
+    ∷ (pos (nodeY (nodes 1 2 0 2 2) 3) is pos 10)
+    ∷ (pos (nodeX (nodes 1 2 16 2 2) 3) is pos 17)
+    ∷ (pos (nodeY (nodes 1 2 16 2 2) 3) is pos 18)
     ∷ []
 
 -- the whole table, computed
 pub examples : T (allHold table)
-unfolding table allHold _is_ equal single heightOf refinedAt nonzero floor near square cube numerator denominator cell offset weighted along height masked finer finer2 refined slopeNumerator slopeDenominator slopeAlong slopeX slopeY total nearMean base
+unfolding table allHold _is_ equal single heightOf refinedAt nonzero floor near square cube numerator denominator cell offset weighted along height masked finer finer2 refined slopeNumerator slopeDenominator slopeAlong slopeX slopeY total nearMean base defaultStep stepOf nodeX nodeY
 examples = tt

@@ -7,19 +7,19 @@ use Rattle.nodes.proofs.sizes.Tie as tie
 
 returns : tie.Need-returns
 unfolding sizeCheck require
-returns c = simp (lt-leb _ _ (c .if1 .taken))
+returns c = simp (lt-leb _ 8_192 (c .if1 .taken))
 
 returns-2 : tie.Need-returns-2
 unfolding sizeCheck require
-returns-2 c = simp (le-leb _ _ (c .before .if1 .left), lt-leb _ _ (c .if2 .taken))
+returns-2 c = simp (le-leb _ 8_192 (c .before .if1 .left), lt-leb _ 8_193 (c .if2 .taken))
 
 returns-3 : tie.Need-returns-3
 unfolding sizeCheck require
-returns-3 c = simp (le-leb _ _ (c .before .before .if1 .left), le-leb _ _ (c .before .if2 .left), lt-leb _ _ (c .if3 .taken))
+returns-3 c = simp (le-leb _ 8_192 (c .before .before .if1 .left), le-leb _ 8_193 (c .before .if2 .left), lt-leb _ 8_193 (c .if3 .taken))
 
 returns-4 : tie.Need-returns-4
 unfolding sizeCheck require
-returns-4 c = simp (le-leb _ _ (c .before .before .if1 .left), le-leb _ _ (c .before .if2 .left), le-leb _ _ (c .if3 .left))
+returns-4 c = simp (le-leb _ 8_192 (c .before .before .if1 .left), le-leb _ 8_193 (c .before .if2 .left), le-leb _ 8_193 (c .if3 .left))
 
 pub sizes-spec : {M : Type 1} → statement M
 sizes-spec = tie.close (tie.spec returns returns-2 returns-3 returns-4)
