@@ -264,7 +264,7 @@ static job *raster_job(size_t cells, size_t step)
 
     v[UNIT] = 16;
     v[STEP] = step;
-    v[COLUMNS] = v[ROWS] = 16 * cells / (step == 0 ? CURLEW_DEFAULT_STEP : step) + 1;
+    v[COLUMNS] = v[ROWS] = 16 * cells / step_of(step) + 1;
     lend_lattice(j);
     lend(j, VALUES, v[COLUMNS] * v[ROWS]);
     return j;

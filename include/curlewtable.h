@@ -137,9 +137,9 @@ curlew_cells curlew_refine(size_t m, size_t n, const int64_t *lattice, size_t la
 #define CURLEW_DEFAULT_STEP ((size_t)8)
 
 /*
- * The heights of columns * rows nodes from (x0, y0) at one step, row by row. Step 0 stands for 8. It stood for 16: a caller that
- * relied on it gives 16, and the raster is then what it was. No columns or no rows writes nothing. Answers the nodes written.
- * Refuses 1, 2, 8, 4, 6, 5 (the first node outside, row * columns + column).
+ * The heights of columns * rows nodes from (x0, y0) at one step, row by row. Step 0 stands for CURLEW_DEFAULT_STEP. It stood for
+ * 16: a caller that relied on 0 gives 16, and the raster is then what it was. No columns or no rows writes nothing. Answers the
+ * nodes written. Refuses 1, 2, 8, 4, 6, 5 (the first node outside, row * columns + column).
  */
 curlew_count curlew_raster(size_t m, size_t n, size_t unit, const int64_t *lattice, size_t lattice_len, size_t x0, size_t y0,
                            size_t step, size_t columns, size_t rows, int64_t *output, size_t output_len);

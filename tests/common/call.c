@@ -3,6 +3,8 @@
  */
 #include "call.h"
 
+#include "../../include/curlewtable.h"
+
 #define BIT(place) (1u << (place))
 #define CELLS (BIT(M) | BIT(N))
 #define POINTS (BIT(X) | BIT(Y) | BIT(Z))
@@ -31,6 +33,11 @@ const char *number_name(function f, unsigned place)
 {
     static const char *const names[NUMBERS] = { "m", "n", "unit", "x", "y", "step", "columns", "rows" };
     return place == H && takes(f, Z) ? "h" : names[place];
+}
+
+size_t step_of(size_t step)
+{
+    return step == 0 ? CURLEW_DEFAULT_STEP : step;
 }
 
 const size_t element_size[SLICES] = {

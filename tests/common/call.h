@@ -65,6 +65,9 @@ extern const char *const role_names[SLICES];
 /* What a function calls the number at this place. */
 const char *number_name(function f, unsigned place);
 
+/* What a raster's step stands for. */
+size_t step_of(size_t step);
+
 /* Bytes of an element. */
 extern const size_t element_size[SLICES];
 

@@ -322,11 +322,6 @@ static size_t some_step(generator *g, size_t unit)
     return once_in(g, 4) ? below(g, MOST_STEP + 1) : steps[below(g, COUNT(steps))];
 }
 
-static size_t step_of(size_t step)
-{
-    return step == 0 ? CURLEW_DEFAULT_STEP : step;
-}
-
 /* Columns or rows: most often as many as fit from start to far, sometimes one too many, sometimes none. */
 static size_t some_nodes(generator *g, size_t start, size_t far, size_t step, size_t most)
 {

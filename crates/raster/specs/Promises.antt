@@ -1,5 +1,5 @@
 -- What a raster promises beyond its equation with the rules: of an accepted one a height alone would be accepted at each node, and each is in range; at a given
--- step it is the raster of before, when step 0 stood for 16.
+-- step it is the raster that these rules have with 16 for step 0, as they had it.
 use mathlib.Core.Path.{_≡_, ap, _∙_}
 use mathlib.Core.Bool.{_&&_}
 use mathlib.Core.Option.{none}
@@ -60,17 +60,18 @@ module _ (m n U : ℕ) (l : List ℤ) (g : Nodes) (d : List ℤ) where
         let p = height-passed m n U l (nodeX g i) (nodeY g i) (node-accepted passed i (rw many h)) in
         rw (entry-height i h) (height-within U m n (nodeX g i) (nodeY g i) (p .0) (control m l) limit (p .1))
 
--- ---- when step 0 stood for 16
+-- ---- the earlier default step
 
-module _ (m n U : ℕ) (l : List ℤ) (x0 y0 across down : ℕ) (d : List ℤ) where
+module _ (m n U : ℕ) (l : List ℤ) (x0 y0 across down : ℕ) (output : List ℤ) where
+  -- these rules with document 01's "Step 0 stands for 16"
   abbrev pub earlier : ℕ → Outcome ℕ (List ℤ)
-  earlier = rasterWhere m n U l x0 y0 across down d 16
+  earlier = rasterWhere m n U l x0 y0 across down output 16
 
   -- a call at this step, and the slice that it leaves, accepted or refused
-  module _ (step : ℕ) (r : CountTold) (after : List ℤ) (rules : outcome (told r) after ≡ rasterCall m n U l (nodes x0 y0 step across down) d) where
+  module _ (step : ℕ) (r : CountTold) (after : List ℤ) (rules : outcome (told r) after ≡ rasterCall m n U l (nodes x0 y0 step across down) output) where
     pub as-earlier : 0 < step → outcome (told r) after ≡ earlier step
-    as-earlier h = rules ∙ given-raster m n U l x0 y0 across down d defaultStep 16 step h
+    as-earlier h = rules ∙ given-raster m n U l x0 y0 across down output defaultStep 16 step h
 
     -- "A caller that relied on 0 must give 16 explicitly, and its raster then equals the earlier one"
     pub sixteen-for-zero : step ≡ 16 → outcome (told r) after ≡ earlier 0
-    sixteen-for-zero is = rules ∙ rw is (given-default m n U l x0 y0 across down d 16 defaultStep (omega arith))
+    sixteen-for-zero is = rules ∙ rw is (given-default m n U l x0 y0 across down output 16 defaultStep (omega arith))

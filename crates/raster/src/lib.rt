@@ -111,6 +111,7 @@ pub fn raster(
 ) -> CountTold
     ensures { λ r. ⌜ outcome (told r) (now (output .exit)) ≡ calls.rasterCall m n unit (now (lattice .entry)) (calls.nodes x0 y0 step columns rows) (now (output .entry)) ⌝ }
 {
+    // put in first: nothing below knows the default
     let by = nodes::step_of(step);
     let room = output.len();
     match samplable(m, n, unit, lattice, x0, y0, by, columns, rows, room) {

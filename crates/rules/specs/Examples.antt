@@ -23,7 +23,7 @@ equal (pos a) (negsuc b) = false
 equal (negsuc a) (pos b) = false
 equal (negsuc a) (negsuc b) = eqb a b
 
--- a line of the table: a value of the rules, and what document 01 says that it is
+-- a line of the table: a value of the rules, and what the documents say that it is
 pub record Line : Type 0 where
   pub found : ℤ
   pub said : ℤ

@@ -12,7 +12,7 @@ use lib.Dec.{leb}
 use lib.IntN.{ℤ}
 use lib.ListN.{length}
 use Rattle.rules.specs.Answers.{Refusal, Check, short, require, _then_}
-use Rattle.rules.specs.Grid.{inside, controls}
+use Rattle.rules.specs.Grid.{controls}
 use Rattle.rules.specs.Calls.{Nodes, cellsCheck, unitCheck, latticeCheck, rasterCheck, sizeCheck, nodesCheck}
 use Rattle.rules.specs.Laws.Checks.{then-none, then-some, then-assoc}
 use Rattle.answers.specs.Cause.{check}

@@ -19,10 +19,10 @@ module _ (m n U : ℕ) (l : List ℤ) (x0 y0 across down : ℕ) (output : List �
   rasterWhere d step = rasterCall m n U l (nodesAt x0 y0 (stepOf d step) across down) output
 
   -- at a given step it is the same for any two defaults
-  pub given-raster : (d e step : ℕ) → 0 < step → rasterWhere d step ≡ rasterWhere e step
-  given-raster d e step h = rw (step-given d step h, step-given e step h) refl
+  pub given-raster : (d d' step : ℕ) → 0 < step → rasterWhere d step ≡ rasterWhere d' step
+  given-raster d d' step h = rw (step-given d step h, step-given d' step h) refl
 
-  -- an earlier default d, given where step 0 was, has the raster that step 0 had
-  pub given-default : (d e : ℕ) → 0 < d → rasterWhere e d ≡ rasterWhere d 0
+  -- the default d, given where 0 was, has the raster that 0 had, whatever the default then is
+  pub given-default : (d d' : ℕ) → 0 < d → rasterWhere d' d ≡ rasterWhere d 0
   unfolding stepOf
-  given-default d e h = rw (step-given e d h) refl
+  given-default d d' h = rw (step-given d' d h) refl
