@@ -1,5 +1,5 @@
--- What a raster promises beyond its equation with the rules: of an accepted one a height alone would be accepted at each node, and each is in range; at a given
--- step it is the raster that these rules have with 16 for step 0, as they had it.
+-- What a raster promises beyond its equation with the rules. Where it is accepted, a height alone would be accepted at each node, and each is in range.
+-- Accepted or refused, at a given step it is the raster of the earlier default, when step 0 stood for 16.
 use mathlib.Core.Path.{_≡_, ap, _∙_}
 use mathlib.Core.Bool.{_&&_}
 use mathlib.Core.Option.{none}

@@ -1,4 +1,4 @@
--- `nodes::step_of` meets its contract: step 0 stands for the default, any other for itself.
+-- `nodes::step_of` meets its contract: step 0 stands for the default, any other for itself, and neither is 0.
 use mathlib.Core.Path.{refl, sym}
 use native.Mathlib.Omega.{arith}
 use Rattle.rules.specs.Calls.{defaultStep, stepOf}

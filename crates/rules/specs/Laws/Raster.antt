@@ -22,7 +22,7 @@ module _ (m n U : ℕ) (l : List ℤ) (x0 y0 across down : ℕ) (output : List �
   pub given-raster : (d d' step : ℕ) → 0 < step → rasterWhere d step ≡ rasterWhere d' step
   given-raster d d' step h = rw (step-given d step h, step-given d' step h) refl
 
-  -- the default d, given where 0 was, has the raster that 0 had, whatever the default then is
+  -- what 0 stood for, given in its place, has the raster that 0 had, whatever 0 stands for since
   pub given-default : (d d' : ℕ) → 0 < d → rasterWhere d' d ≡ rasterWhere d 0
   unfolding stepOf
   given-default d d' h = rw (step-given d' d h) refl
