@@ -270,6 +270,20 @@ static job *raster_job(size_t cells, size_t step)
     return j;
 }
 
+/* The nodes of a raster of the ground, of which about half stand below the stage. */
+static job *storage_job(size_t side)
+{
+    job *j = raster_job(512, 16 * 512 / (side - 1));
+    size_t *v = j->call.number;
+    const int64_t *heights = j->call.slice[VALUES].at;
+
+    run_reference(&j->call);
+    j->call.function = STORAGE_AT;
+    v[STAGE] = (size_t)heights[side * side / 2];
+    v[NODE_SIDE] = 100;
+    return j;
+}
+
 static job *refine_job(size_t cells)
 {
     job *j = new_job(REFINE, cells, cells);
@@ -379,6 +393,8 @@ static void calls_table(void)
     line("height, 512 x 512, the last value is", offended_job(1));
     line("raster, 2,049 x 2,049 nodes of 512 x 512", raster_job(512, 4));
     line("raster, step 0, 1,025 x 1,025 nodes of 512 x 512", raster_job(512, 0));
+    line("storage, 2,049 x 2,049 nodes", storage_job(2049));
+    line("storage, 65 x 65 nodes", storage_job(65));
     line("refine, 256 x 256 to 512 x 512", refine_job(256));
     line("write_lattice, 512 x 512 (2,123,870 bytes)", write_lattice_job(512));
     line("read_lattice, 512 x 512", reading(write_lattice_job(512)));

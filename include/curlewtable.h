@@ -22,7 +22,7 @@
  *    3  x, y, z lists differ in length, or over 65,535 points                                   place 0
  *    4  a lent slice is too short                                                               place 0
  *    5  position outside                           the point's or node's index, 0 for a single height or slope
- *    6  height or control value out of range                                                    its index
+ *    6  height or control value out of range          its index; of a storage 0 for the stage, and the heights from 1
  *    7  a quotient out of range in a level of the fit                                           the level
  *    8  step above 8,192, or columns or rows above 8,193                                        place 0
  *    9  record incomplete                                                          the byte of the record's start
@@ -32,9 +32,10 @@
  *   13  a residual out of range in a level of the fit                                           the level
  *   14  a sum out of range in a level of the fit                                                the level
  *   15  a difference from the base of the fit out of range                                      the point's index
+ *   16  a node side outside 1..100 decimetres                                                   place 0
  * A refusal leaves every slice as it was, but for 7, 13 and 14: the scratch prefixes are then zero, as after an acceptance, and
  * lattice and residuals are as they were. The order of the checks is 1, 2, 3, 8, 4, then 5 and 6; points in list order, 5 before 6
- * in a point, elsewhere the whole lattice (6) before positions (5); of a fit whose points are all in order the differences (15),
+ * in a point, elsewhere the whole lattice (6) before positions (5); of a storage the side (16) before 6; of a fit whose points are all in order the differences (15),
  * and then its levels one by one, in each all quotients (7), then all residuals (13), then all sums (14), and after the last
  * level the sums with the base (14); readers record by record, 9, 10, 11, then 12, then 4.
  */
@@ -95,6 +96,12 @@ typedef struct {
     size_t m0, n0, h, points;
 } curlew_header;
 
+/* storage_at: the litres */
+typedef struct {
+    size_t number, place;
+    uint64_t litres;
+} curlew_storage;
+
 /* ---- the surface engine */
 
 /*
@@ -143,6 +150,18 @@ curlew_cells curlew_refine(size_t m, size_t n, const int64_t *lattice, size_t la
  */
 curlew_count curlew_raster(size_t m, size_t n, size_t unit, const int64_t *lattice, size_t lattice_len, size_t x0, size_t y0,
                            size_t step, size_t columns, size_t rows, int64_t *output, size_t output_len);
+
+/* ---- above the surface engine */
+
+/*
+ * Pond storage: the litres that a raster of columns * rows heights, row by row, holds below a stage in range, in micrometres, where
+ * each node stands for a square of side decimetres (1..100). A node's depth is the stage less its height where positive, else 0;
+ * the litres are the sum of depths * side^2 / 100,000, rounded down once: at most 53,700,199,200,000,000. A higher stage never
+ * stores less. Nothing is written; what lies past columns * rows is neither read nor checked; no columns or no rows hold 0.
+ * Refuses 8, 4, 16, 6: the stage first, with place 0, then height i with place i + 1. The heights that an accepted raster of so many
+ * columns and rows has left are never refused: then only 16 and the stage's 6 are left.
+ */
+curlew_storage curlew_storage_at(size_t columns, size_t rows, const int64_t *heights, size_t heights_len, int64_t stage, size_t side);
 
 /* ---- the two files */
 

@@ -14,6 +14,7 @@ typedef enum {
     SLOPE_AT,
     REFINE,
     RASTER,
+    STORAGE_AT,
     READ_LATTICE,
     WRITE_LATTICE,
     READ_POINTS,
@@ -21,10 +22,13 @@ typedef enum {
     FUNCTIONS
 } function;
 
-/* The places of a call's numbers, in the header's order. Fits have h where lattices have their unit. */
-enum { M, N, H, UNIT = H, AT_X, AT_Y, STEP, COLUMNS, ROWS, NUMBERS };
+/* The places of a call's numbers, in the header's order. Fits have h where lattices have their unit. A stage is there by its bits. */
+enum { M, N, H, UNIT = H, AT_X, AT_Y, STEP, COLUMNS, ROWS, STAGE, NODE_SIDE, NUMBERS };
 
-/* The slices, by what they hold. VALUES and BYTES are what the header calls output; BYTES is also the readers' file. */
+/*
+ * The slices, by what they hold. VALUES and BYTES are what the header calls output; VALUES is also the raster that a storage reads,
+ * BYTES the readers' file.
+ */
 typedef enum { X, Y, Z, LATTICE, RESIDUAL, WHOLE, FLOATS, VALUES, BYTES, SLICES } role;
 
 typedef struct {
@@ -82,7 +86,7 @@ static inline int writes(function f, role r)
 }
 
 /* The refusals are numbered from 1 to this, and 0 is an acceptance. The largest number stands here alone. */
-enum { MOST_NUMBER = 15 };
+enum { MOST_NUMBER = 16 };
 
 /* Those of a fit alone: a difference from the base out of range; and in a level a quotient, a residual or a sum. */
 enum { DIFFERENCE_OUT = 15, QUOTIENT_OUT = 7, RESIDUAL_OUT = 13, SUM_OUT = 14 };

@@ -16,6 +16,15 @@ typedef void test_case(generator *g, size_class size);
  */
 test_case fit_case, range_end_case, leap_case, tie_case, height_case, slope_case, refine_case, raster_case;
 
+/*
+ * Pond storage: of any heights, where a higher stage must not store less, and of the heights that a raster has left, of which none
+ * may be refused.
+ */
+test_case storage_case, sampled_case;
+
+/* A raster's call, with no trouble. */
+draft some_sampling(generator *g, size_class size);
+
 /* The two files: written, then read back whole or damaged. */
 test_case lattice_file_case, point_file_case;
 

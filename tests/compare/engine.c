@@ -7,7 +7,6 @@
 #include "../../include/curlewtable.h"
 
 #define MOST_STEP 8192
-#define MOST_NODES 8193
 
 /* ---- fits ---- */
 
@@ -366,7 +365,7 @@ static void raster_trouble(generator *g, draft *d)
     }
 }
 
-void raster_case(generator *g, size_class size)
+draft some_sampling(generator *g, size_class size)
 {
     const size_t most = size == SMALL ? 12 : MOST_NODES;
     draft d = some_surface(g, RASTER, size);
@@ -381,6 +380,13 @@ void raster_case(generator *g, size_class size)
         room = room / 10 + 1;
     v[ROWS] = some_nodes(g, v[AT_Y], d.far_y, v[STEP], room < most ? room : most);
     lend(g, &d, VALUES, v[COLUMNS] * v[ROWS]);
+    return d;
+}
+
+void raster_case(generator *g, size_class size)
+{
+    draft d = some_sampling(g, size);
+
     some_troubles(g, &d, raster_trouble);
     trial(&d.call);
 }

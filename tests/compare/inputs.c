@@ -174,20 +174,32 @@ static int64_t some_constant(generator *g)
     return some_value(g, (habit)(UNITS + below(g, ENDS - UNITS + 1)), 0, 0);
 }
 
-void some_lattice(generator *g, draft *d)
+/* Lends so many values in range, in rows of so many. */
+static void some_values(generator *g, draft *d, role r, size_t across, size_t places)
 {
-    const size_t m = d->call.number[M], n = d->call.number[N], places = CURLEW_CONTROLS(m, n);
     const habit how = (habit)below(g, HABITS);
     const int64_t constant = some_constant(g);
-    int64_t *values = d->call.slice[LATTICE].at;
+    int64_t *values = d->call.slice[r].at;
     size_t at;
 
-    lend(g, d, LATTICE, places);
+    lend(g, d, r, places);
     for (at = 0; at < places; at++)
         values[at] = how == CONSTANT ? constant
-                     : some_value(g, how, (double)(at % (m + 3)) / (double)(m + 3), (double)at / (double)places);
-    if (how == SINGLE)
+                     : some_value(g, how, (double)(at % across) / (double)across, (double)at / (double)places);
+    if (how == SINGLE && places > 0)
         values[below(g, places)] = constant;
+}
+
+void some_lattice(generator *g, draft *d)
+{
+    const size_t *v = d->call.number;
+    some_values(g, d, LATTICE, v[M] + 3, CURLEW_CONTROLS(v[M], v[N]));
+}
+
+void some_raster(generator *g, draft *d)
+{
+    const size_t *v = d->call.number;
+    some_values(g, d, VALUES, v[COLUMNS], v[COLUMNS] * v[ROWS]);
 }
 
 /* ---- points ---- */
@@ -350,8 +362,7 @@ static size_t some_index(generator *g, size_t count)
     return once_in(g, 5) ? 0 : once_in(g, 4) ? count - 1 : once_in(g, 2) ? some_turn(g, count) : below(g, count);
 }
 
-/* Puts a value out of range in the slice, or a few: the first of them counts. */
-static void spoil(generator *g, draft *d, role r)
+void spoil(generator *g, draft *d, role r)
 {
     const size_t count = d->exact[r];
     size_t offenders = once_in(g, 3) ? 1 + below(g, 4) : 1;

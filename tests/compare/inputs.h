@@ -10,6 +10,7 @@
 #include "../common/random.h"
 
 #define LIMIT INT64_C(4000000000)       /* the range's end */
+#define MOST_NODES 8193                 /* columns or rows */
 
 /* Most cases are small, so that many run; a few are larger, or as large as the header allows. */
 typedef enum { SMALL, MEDIUM, LARGEST } size_class;
@@ -36,6 +37,9 @@ size_t some_unit(generator *g);
 /* Lends a lattice of the draft's cells in range; its tail, which no call may look at, is noise. */
 void some_lattice(generator *g, draft *d);
 
+/* Lends a raster of the draft's columns and rows in range; its tail is noise too. */
+void some_raster(generator *g, draft *d);
+
 /* Lends lists of so many points of the draft's grid in range: on grid lines, at edges, at equal positions too. */
 void some_points(generator *g, draft *d, size_t points);
 
@@ -58,6 +62,9 @@ int64_t wrong_value(generator *g);
 
 /* Mostly no trouble, else one, else several at once, so that the order of the checks shows. */
 void some_troubles(generator *g, draft *d, void (*trouble)(generator *g, draft *d));
+
+/* Puts a value out of range in the slice, or a few: the first of them counts. */
+void spoil(generator *g, draft *d, role r);
 
 /* Shortens a slice: by one, to a part, to nothing. */
 void shorten(generator *g, draft *d, role r);

@@ -91,7 +91,7 @@ static void print_call(const call *c)
     printf("%s: %s", current_name, shapes[c->function].name);
     for (place = 0; place < NUMBERS; place++)
         if (shapes[c->function].numbers >> place & 1)
-            printf(", %s %zu", number_name(c->function, place), c->number[place]);
+            printf(place == STAGE ? ", %s %zd" : ", %s %zu", number_name(c->function, place), c->number[place]);
     printf("\n");
     for (r = X; r < SLICES; r++)
         if (takes(c->function, r))

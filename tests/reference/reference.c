@@ -1,10 +1,11 @@
 /*
- * A second implementation of document 01 and of document 02's jobs 1, 3, 4 and 5, written from
- * their text: its author had document 01 and the interface reference.h, the later author of
- * the slopes that job's text too, and this file as it stood, and the authors of refusals 13
- * and 14, of the base and of the finer default step documents 01 and 02, the interface, this
- * file and README.md as they stood. None had the definitions, nor the library's code, nor any
- * paper that explains them. README.md says how they read what the text leaves open.
+ * A second implementation of document 01 and of document 02's jobs 1, 3, 4, 5 and 6, written
+ * from their text: its author had document 01 and the interface reference.h, the later author
+ * of the slopes that job's text too, and this file as it stood, and the authors of refusals 13
+ * and 14, of the base, of the finer default step and of the pond storage documents 01 and 02,
+ * the interface, this file and README.md as they stood. None had the definitions, nor the
+ * library's code, nor any paper that explains them. README.md says how they read what the text
+ * leaves open.
  *
  * Compile with
  *     gcc -std=c99 -Wall -Wextra -pedantic -O3 -ffp-contract=off
@@ -33,6 +34,8 @@
 #define MAX_STEP 8192
 #define DEFAULT_STEP 8              /* what step 0 stands for at every U; 16 before job 5 */
 #define MAX_NODES 8193              /* columns or rows of a raster */
+#define MAX_SIDE 100                /* a node's side, in decimetres */
+#define PER_LITRE 100000            /* micrometres times square decimetres in a litre */
 #define FINEST_SHIFT 4              /* U is 1 << shift: 16 at the finest level, 512 at most */
 #define WIDEST_SHIFT 9
 
@@ -645,6 +648,49 @@ ref_count ref_raster(size_t m, size_t n, size_t unit, const int64_t *lattice, si
         return (ref_count){ .number = 5, .place = bad };
     write_raster(m, n, shift, lattice, x0, y0, step, columns, rows, output);
     return (ref_count){ .count = nodes };
+}
+
+/* ---- Pond storage ---- */
+
+/* "stage less height where positive, else 0": at most 2 * BOUND, as both are in range. */
+static int64_t depth_at(int64_t stage, int64_t height)
+{
+    return height < stage ? stage - height : 0;
+}
+
+/*
+ * The floor of (sum * side^2) / PER_LITRE, of the whole sum. MAX_NODES^2 depths add up to at most
+ * 8e9 * 6.8e7 < 5.5e17 < 2^63, but 10,000 times that leaves 64 bits. With the sum as whole * PER_LITRE
+ * + rest, the product over PER_LITRE is whole * side^2 + rest * side^2 / PER_LITRE, whose first term is
+ * a whole number. It is below 5.5e16, and rest * side^2 below 1e9.
+ */
+static uint64_t litres_of(int64_t sum, size_t side)
+{
+    uint64_t square = (uint64_t)side * side;
+    uint64_t whole = (uint64_t)sum / PER_LITRE, rest = (uint64_t)sum % PER_LITRE;
+    return whole * square + rest * square / PER_LITRE;
+}
+
+/* 8, 4, "16 for a side outside its range, after 4", then 6: "the stage as index 0 and then the heights from 1". */
+ref_storage ref_storage_at(size_t columns, size_t rows, const int64_t *heights, size_t heights_len,
+                           int64_t stage, size_t side)
+{
+    if (columns > MAX_NODES || rows > MAX_NODES)
+        return (ref_storage){ .number = 8 };
+    size_t nodes = columns * rows;
+    if (heights_len < nodes)
+        return (ref_storage){ .number = 4 };
+    if (side < 1 || side > MAX_SIDE)
+        return (ref_storage){ .number = 16 };
+    if (!in_range(stage))
+        return (ref_storage){ .number = 6, .place = 0 };
+    int64_t sum = 0;
+    for (size_t i = 0; i < nodes; i++) {
+        if (!in_range(heights[i]))
+            return (ref_storage){ .number = 6, .place = i + 1 };
+        sum += depth_at(stage, heights[i]);
+    }
+    return (ref_storage){ .litres = litres_of(sum, side) };
 }
 
 /* ---- Files: little-endian fields and marks ---- */

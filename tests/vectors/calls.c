@@ -1,5 +1,5 @@
 /*
- * The vectors that are calls of the library: heights, slopes, refinements, rasters and fits, run on either implementation.
+ * The vectors that are calls of the library: heights, slopes, refinements, rasters, storages and fits, run on either implementation.
  */
 #include "lines.h"
 
@@ -122,6 +122,34 @@ static int raster_line(const char *text, runner *run)
     return agrees;
 }
 
+/* columns rows stage side length : heights : answer; a list shorter than length is repeated from its start */
+static int storage_line(const char *text, runner *run)
+{
+    static const unsigned place[] = { COLUMNS, ROWS, STAGE, NODE_SIDE };
+    numbers line = read_numbers(text);
+    const int64_t *head = line.list[0].values;
+    const list given = line.list[1];
+    call c;
+    int64_t *heights;
+    size_t length, at;
+    int agrees;
+
+    check_line(&line, text, 3, COUNT(place) + 1);
+    memset(&c, 0, sizeof c);
+    c.function = STORAGE_AT;
+    for (at = 0; at < COUNT(place); at++)
+        c.number[place[at]] = (size_t)head[at];
+    length = (size_t)head[COUNT(place)];
+    heights = room(length, sizeof *heights);
+    for (at = 0; at < length; at++)
+        heights[at] = given.values[at % given.count];
+    lend(&c, VALUES, heights, length);
+    agrees = same_answer(run(&c), line.list[2], 1, 0);
+    free(heights);
+    free_numbers(&line);
+    return agrees;
+}
+
 static uint16_t *as_u16(list positions, const char *text)
 {
     uint16_t *result = room(positions.count, sizeof *result);
@@ -193,6 +221,7 @@ size_t run_calls(const char *folder, runner *run)
     differ += run_file(folder, "slope.txt", slope_line, run);
     differ += run_file(folder, "refine.txt", refine_line, run);
     differ += run_file(folder, "raster.txt", raster_line, run);
+    differ += run_file(folder, "storage.txt", storage_line, run);
     differ += run_file(folder, "fit.txt", fit_line, run);
     return differ;
 }

@@ -1,6 +1,6 @@
 -- Linear facts over ℤ. Every whole number is a shut difference p ⊝ q of two naturals; the set `whole` moves a statement about
 -- such differences over to ℕ, where `omega arith` proves it. The examples at the end show the use.
-use mathlib.Core.Path.{_≡_, ap}
+use mathlib.Core.Path.{_≡_, ap, ap₂, _∙_}
 use mathlib.Core.Logic.{_↔_}
 use mathlib.Core.Bool.{Bool, true, false, not, cond}
 use Prim.Native.Nat.{ℕ, zero, suc, _+_, _*_, _-_, _≤_, _<_}
@@ -120,11 +120,11 @@ pub ruleset whole = (pos-⊝, negsuc-⊝, neg-⊝, neg-pos-⊝, subℕ-⊝, add-
 
 -- ---- every whole number is a difference
 
-pub posPart : ℤ → ℕ
+unfoldable pub posPart : ℤ → ℕ
 posPart (pos n) = n
 posPart (negsuc n) = 0
 
-pub negPart : ℤ → ℕ
+unfoldable pub negPart : ℤ → ℕ
 negPart (pos n) = 0
 negPart (negsuc n) = suc n
 
@@ -132,6 +132,23 @@ pub split : (z : ℤ) → z ≡ posPart z ⊝ negPart z
 unfolding posPart negPart
 split (pos n) = pos-⊝ n
 split (negsuc n) = negsuc-⊝ n
+
+-- the positive part of a difference
+posPart-is : {p q : ℕ} {z : ℤ} → Is p q z → posPart z ≡ p - q
+unfolding posPart
+posPart-is (above n e) = omega arith
+posPart-is (below n e) = omega arith
+
+pub posPart-⊝ : (p q : ℕ) → posPart (p ⊝ q) ≡ p - q
+posPart-⊝ p q = posPart-is (itself p q)
+
+pub posPart-minus : (a b : ℤ) → posPart (a -ℤ b) ≡ (posPart a + negPart b) - (negPart a + posPart b)
+posPart-minus a b =
+    ap posPart
+    (ap₂ _-ℤ_ (split a) (split b)
+    ∙ ap (λ z. posPart a ⊝ negPart a +ℤ z) (neg-⊝ (posPart b) (negPart b))
+    ∙ add-⊝ (posPart a) (negPart a) (negPart b) (posPart b))
+    ∙ posPart-⊝ (posPart a + negPart b) (negPart a + posPart b)
 
 -- ---- the use: split each unknown, rewrite by `whole`, call omega. The hypotheses stand in the goal, where `simp` reaches them; a
 -- fact about larger terms is stated over variables first. A product with a variable factor is multiplied out, each monomial an unknown

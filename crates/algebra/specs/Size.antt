@@ -1,9 +1,9 @@
 -- Size and order of whole numbers: what error bounds and the rounding laws use. natAbs (pos n) computes to n and needs no law.
-use mathlib.Core.Path.{_≡_, refl}
+use mathlib.Core.Path.{_≡_, refl, sym, ap, _∙_}
 use mathlib.Core.Logic.{_↔_, _⊎_, inl, inr}
 use mathlib.Core.Bool.{Bool, true, false, not}
-use Prim.Native.Nat.{ℕ, zero, suc, _+_, _-_, _*_, _≤_, _<_}
-use native.Mathlib.Nat.{mul-le-mul-left, lt-of-mul-lt-mul-left, add-sub-of-le}
+use Prim.Native.Nat.{ℕ, zero, suc, _+_, _-_, _*_, _/_, _%_, _≤_, _<_}
+use native.Mathlib.Nat.{add-comm, add-mul, mul-le-mul-left, lt-of-mul-lt-mul-left, add-sub-of-le, div-add-mod', le-div-iff-mul-le, add-mul-div-right}
 use native.Mathlib.Decide.{decLt}
 use native.Mathlib.Omega.{arith}
 use lib.IntN.{ℤ, pos, negsuc, negℤ, natAbs, _+ℤ_, _-ℤ_, _*ℤ_}
@@ -79,3 +79,17 @@ twice-product a b = go (decLt a b)
     go : Dec (a < b) → 2 * (a * b) ≤ a * a + b * b
     go (yes l) = let e : a + (b - a) ≡ b = add-sub-of-le (omega arith) in rw (← e) (omega arith)
     go (no g) = let e : b + (a - b) ≡ a = add-sub-of-le (omega arith) in rw (← e) (omega arith)
+
+-- ---- floors of products
+
+-- a larger number's is no less
+pub div-rises : {a b : ℕ} (d : ℕ) → 0 < d → a ≤ b → a / d ≤ b / d
+div-rises {a} {b} d h l = le-div-iff-mul-le h .1 (omega (arith, div-add-mod' a d))
+
+-- of a · b over d, with no product larger than a / d · b or d · b
+pub product-div : (a b d : ℕ) → 0 < d → a * b / d ≡ a / d * b + a % d * b / d
+product-div a b d h =
+    ap (λ v. v * b / d) (sym (div-add-mod' a d))
+    ∙ ap (λ v. v / d) (add-mul (a / d * d) (a % d) b ∙ omega arith)
+    ∙ add-mul-div-right (a % d * b) (a / d * b) h
+    ∙ add-comm (a % d * b / d) (a / d * b)

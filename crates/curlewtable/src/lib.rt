@@ -1,16 +1,20 @@
 // The C boundary: every call of documents 01 and 02 on numbers and slices, with the contract of the function below it. The header is include/curlewtable.h.
 ghost use mathlib.Core.Path.{_≡_};
 ghost use Rattle.rules.specs.Fit.{shape, survey};
+ghost use Rattle.rules.specs.Answers.{answer, _then_};
 ghost use Rattle.rules.specs.Calls as calls;
+ghost use Rattle.rules.specs.Storage as pond;
 ghost use Rattle.rules.specs.Demand3.{CloseEverywhere};
 ghost use Rattle.rules.specs.LatticeFile as latticeFile;
 ghost use Rattle.rules.specs.PointFile as pointFile;
-ghost use Rattle.fields.specs.Fields.{handed, inFields, cellsFields, heightFields, slopeFields, countFields, headerFields};
+ghost use Rattle.storage.specs.Sampled.{Sampled};
+ghost use Rattle.fields.specs.Fields.{handed, inFields, cellsFields, heightFields, slopeFields, countFields, headerFields, storageFields};
 use fields::CellsAnswer;
 use fields::CountAnswer;
 use fields::HeaderAnswer;
 use fields::HeightAnswer;
 use fields::SlopeAnswer;
+use fields::StorageAnswer;
 
 #[no_mangle]
 pub extern "C" fn curlew_fit(
@@ -87,6 +91,21 @@ pub extern "C" fn curlew_raster(
     ensures { λ r. ⌜ handed r (now (output .exit)) ≡ inFields countFields (calls.rasterCall m n unit (now (lattice .entry)) (calls.nodes x0 y0 step columns rows) (now (output .entry))) ⌝ }
 {
     fields::count(raster::raster(m, n, unit, lattice, x0, y0, step, columns, rows, output))
+}
+
+// Of the heights that an accepted raster left none is refused: only the side and the stage can be.
+#[no_mangle]
+pub extern "C" fn curlew_storage_at(
+    columns: usize,
+    rows: usize,
+    heights: &[i64],
+    stage: i64,
+    side: usize,
+) -> StorageAnswer
+    ensures { λ r. ⌜ r ≡ storageFields (pond.storageAnswer columns rows (now (heights .entry)) stage side) ⌝ }
+    ensures { λ r. ⌜ (Sampled columns rows (now (heights .entry)) → r ≡ storageFields (answer (pond.sideCheck side then pond.stageCheck stage) (pond.storage columns rows (now (heights .entry)) stage side))) ⌝ }
+{
+    fields::storage(storage::storage(columns, rows, heights, stage, side))
 }
 
 #[no_mangle]

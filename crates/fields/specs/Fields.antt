@@ -10,6 +10,7 @@ use Rattle.fields.specs.declared.HeightAnswer.{HeightAnswer}
 use Rattle.fields.specs.declared.SlopeAnswer.{SlopeAnswer}
 use Rattle.fields.specs.declared.CountAnswer.{CountAnswer}
 use Rattle.fields.specs.declared.HeaderAnswer.{HeaderAnswer}
+use Rattle.fields.specs.declared.StorageAnswer.{StorageAnswer}
 
 -- the fields of an answer, and the slices as the call leaves them
 pub record Handed (A B : Type 0) : Type 0 where
@@ -42,3 +43,7 @@ abbrev pub headerFields : rule.Answer pointFile.Header → HeaderAnswer
 headerFields (accepted a) =
     record { number = 0; place = 0; m0 = a .shape .m0; n0 = a .shape .n0; h = a .shape .h; points = a .points }
 headerFields (refused r) = record { number = rule.number r; place = rule.place r; m0 = 0; n0 = 0; h = 0; points = 0 }
+
+abbrev pub storageFields : rule.Answer ℕ → StorageAnswer
+storageFields (accepted v) = record { number = 0; place = 0; litres = v }
+storageFields (refused r) = record { number = rule.number r; place = rule.place r; litres = 0 }

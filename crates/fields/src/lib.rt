@@ -6,12 +6,14 @@ ghost use Rattle.answers.specs.CountTold as countTold;
 ghost use Rattle.heights.specs.Reading as reading;
 ghost use Rattle.slopes.specs.Sloping as sloped;
 ghost use Rattle.point_records.specs.Read as pointsRead;
-ghost use Rattle.fields.specs.Fields.{cellsFields, heightFields, slopeFields, countFields, headerFields};
+ghost use Rattle.storage.specs.Told as stored;
+ghost use Rattle.fields.specs.Fields.{cellsFields, heightFields, slopeFields, countFields, headerFields, storageFields};
 use answers::CellsTold;
 use answers::CountTold;
 use heights::Reading;
 use point_records::PointsRead;
 use slopes::Sloped;
+use storage::Stored;
 
 #[repr(C)]
 pub struct CellsAnswer {
@@ -51,6 +53,13 @@ pub struct HeaderAnswer {
     pub n0: usize,
     pub h: usize,
     pub points: usize,
+}
+
+#[repr(C)]
+pub struct StorageAnswer {
+    pub number: usize,
+    pub place: usize,
+    pub litres: u64,
 }
 
 pub fn cells(answer: CellsTold) -> CellsAnswer
@@ -144,6 +153,23 @@ pub fn header(answer: PointsRead) -> HeaderAnswer
             n0: 0,
             h: 0,
             points: 0,
+        },
+    }
+}
+
+pub fn storage(answer: Stored) -> StorageAnswer
+    ensures { λ r. ⌜ r ≡ storageFields (stored.told answer) ⌝ }
+{
+    match answer {
+        Stored::Litres(v) => StorageAnswer {
+            number: 0,
+            place: 0,
+            litres: v,
+        },
+        Stored::Refused(r) => StorageAnswer {
+            place: answers::place(r),
+            number: answers::number(r),
+            litres: 0,
         },
     }
 }

@@ -7,16 +7,14 @@ use native.Mathlib.Nat.{mod-eq-of-lt, mul-comm, mul-div-cancel, mul-le-mul-right
 use native.Mathlib.Omega.{arith}
 use lib.Dec.{leb, leb→le}
 use mir.Facts.{and-yes}
-use Rattle.rules.specs.Answers.{size, position}
-use Rattle.rules.specs.Calls.{Nodes, nodeX, nodeY, sizeCheck, nodeCheck, nodesCheck}
-use Rattle.rules.specs.Laws.Checks.{required, firstOf-none}
+use Rattle.rules.specs.Answers.{size, position, require}
+use Rattle.rules.specs.Calls.{Nodes, nodeX, nodeY, countsCheck, sizeCheck, nodeCheck, nodesCheck}
+use Rattle.rules.specs.Laws.Checks.{required, then-rest, firstOf-none}
+use Rattle.rules.specs.Laws.Passed.{counts-passed}
 
 pub size-passed : (step columns rows : ℕ) → sizeCheck step columns rows ≡ none → (columns ≤ 8_193) × (rows ≤ 8_193)
 unfolding sizeCheck
-size-passed step columns rows h =
-    let wide = leb step 8_192 && leb columns 8_193 in
-    let p = and-yes wide (leb rows 8_193) (required (wide && leb rows 8_193) size h) in
-    (leb→le columns 8_193 (and-yes (leb step 8_192) (leb columns 8_193) (p .0) .1), leb→le rows 8_193 (p .1))
+size-passed step columns rows h = counts-passed columns rows (then-rest (require (leb step 8_192) size) (countsCheck columns rows) h)
 
 -- all nodes lie at most at right and top, if there are any
 pub record NodesInside (right top : ℕ) (g : Nodes) : Type 0 where

@@ -6,15 +6,15 @@ use mathlib.Core.Option.{none}
 use mathlib.Core.List.{List}
 use Prim.Native.Nat.{ℕ, _*_, _≤_, _<_}
 use native.Mathlib.Omega.{arith}
-use lib.Dec.{leb}
+use lib.Dec.{T, leb, leb→le}
 use lib.IntN.{ℤ, pos, natAbs}
 use lib.ListN.{length, getD}
 use mir.Facts.{and-yes}
-use Rattle.algebra.specs.Table.{tabulate, length-tabulate, getD-tabulate, getD-over}
+use Rattle.algebra.specs.Table.{tabulate, over, length-tabulate, getD-tabulate, length-over, getD-over}
 use Rattle.rules.specs.Grid.{limit, inside, controls, control}
 use Rattle.rules.specs.Surface.{height}
-use Rattle.rules.specs.Answers.{require, short, position, _then_, accepted, Outcome, outcome}
-use Rattle.rules.specs.Calls.{Nodes, defaultStep, nodes, cellsCheck, unitCheck, latticeCheck, nodeX, nodeY, sizeCheck, nodeCheck, nodesCheck, heightCheck, rasterCheck, rasterCall}
+use Rattle.rules.specs.Answers.{require, short, position, size, _then_, accepted, Outcome, outcome}
+use Rattle.rules.specs.Calls.{Nodes, defaultStep, nodes, cellsCheck, unitCheck, latticeCheck, nodeX, nodeY, countsCheck, sizeCheck, nodeCheck, nodesCheck, heightCheck, rasterCheck, rasterCall}
 use Rattle.rules.specs.Laws.Checks.{required, require-met, then-both, then-rest, firstOf-none, call-unrefused, call-value, call-after}
 use Rattle.rules.specs.Laws.Surface.{height-within}
 use Rattle.rules.specs.Laws.Raster.{rasterWhere, given-raster, given-default}
@@ -23,19 +23,48 @@ use Rattle.answers.specs.CountTold.{told}
 use Rattle.answers.specs.declared.CountTold.{CountTold}
 
 module _ (m n U : ℕ) (l : List ℤ) (g : Nodes) (d : List ℤ) where
-  -- the height at node q is accepted
-  pub node-accepted : rasterCheck m n U l g d ≡ none → (q : ℕ) → q < g .across * g .down → heightCheck m n U l (nodeX g q) (nodeY g q) ≡ none
-  unfolding rasterCheck nodesCheck nodeCheck heightCheck inside _then_
-  node-accepted h q k =
+  -- what the checks have shown
+  record Passed : Type 0 where
+    cells : cellsCheck 512 m n ≡ none
+    unit : unitCheck U ≡ none
+    counts : countsCheck (g .across) (g .down) ≡ none
+    long : T (leb (controls m n) (length l))
+    room : T (leb (g .across * g .down) (length d))
+    ranges : latticeCheck m n l ≡ none
+    inside-all : nodesCheck (U * m) (U * n) g ≡ none
+
+  all-passed : rasterCheck m n U l g d ≡ none → Passed
+  unfolding rasterCheck sizeCheck
+  all-passed h =
       let long = leb (controls m n) (length l) in
       let room = leb (g .across * g .down) (length d) in
       let a = then-both (cellsCheck 512 m n) _ h in
       let b = then-both (unitCheck U) _ (a .1) in
-      let c = then-both (require (long && room) short) _ (then-rest (sizeCheck (g .step) (g .across) (g .down)) _ (b .1)) in
-      let e = then-both (latticeCheck m n l) _ (c .1) in
+      let c = then-both (sizeCheck (g .step) (g .across) (g .down)) _ (b .1) in
+      let e = then-both (require (long && room) short) _ (c .1) in
+      let f = then-both (latticeCheck m n l) _ (e .1) in
+      let both = and-yes long room (required (long && room) short (e .0)) in
+      record {
+        cells = a .0;
+        unit = b .0;
+        counts = then-rest (require (leb (g .step) 8_192) size) _ (c .0);
+        long = both .0;
+        room = both .1;
+        ranges = f .0;
+        inside-all = f .1;
+      }
+
+  -- the height at node q is accepted
+  pub node-accepted : rasterCheck m n U l g d ≡ none → (q : ℕ) → q < g .across * g .down → heightCheck m n U l (nodeX g q) (nodeY g q) ≡ none
+  unfolding nodesCheck nodeCheck heightCheck inside _then_
+  node-accepted h q k =
+      let p = all-passed h in
       let on = leb (nodeX g q) (U * m) && leb (nodeY g q) (U * n) in
-      rw (a .0, b .0, require-met long short (and-yes long room (required (long && room) short (c .0)) .0), e .0)
-      (require-met on (position 0) (required on (position q) (firstOf-none (g .across * g .down) (nodeCheck (U * m) (U * n) g) (e .1) q k)))
+      rw (p .cells, p .unit, require-met (leb (controls m n) (length l)) short (p .long), p .ranges)
+      (require-met on (position 0) (required on (position q) (firstOf-none (g .across * g .down) (nodeCheck (U * m) (U * n) g) (p .inside-all) q k)))
+
+  abbrev heightAt : ℕ → ℤ
+  heightAt i = height U m n (control m l) (nodeX g i) (nodeY g i)
 
   -- an accepted raster of q nodes, and the slice that it leaves
   module _ (r : CountTold) (after : List ℤ) (rules : outcome (told r) after ≡ rasterCall m n U l g d) (q : ℕ) (is : told r ≡ accepted q) where
@@ -43,17 +72,29 @@ module _ (m n U : ℕ) (l : List ℤ) (g : Nodes) (d : List ℤ) where
     unfolding rasterCall
     passed = call-unrefused _ _ _ d (told r) after rules q is
 
-    many : g .across * g .down ≡ q
+    -- as many as it was asked for
+    pub many : g .across * g .down ≡ q
     unfolding rasterCall
     many = call-value (rasterCheck m n U l g d) (g .across * g .down) _ d (told r) after rules q is
 
+    -- in at most 8,193 columns and rows
+    pub counted : countsCheck (g .across) (g .down) ≡ none
+    counted = all-passed passed .counts
+
+    written : after ≡ over (tabulate q heightAt) d
+    unfolding rasterCall
+    written = call-after (rasterCheck m n U l g d) _ _ d (told r) after rules q is ∙ ap (λ v. over (tabulate v heightAt) d) many
+
+    -- and the slice has a place for each
+    pub entries-held : q ≤ length after
+    entries-held =
+        let fits : q ≤ length d = rw (← many) (leb→le (g .across * g .down) (length d) (all-passed passed .room)) in
+        rw (written, length-over (tabulate q heightAt) d (rw (length-tabulate q heightAt) fits)) fits
+
     -- entry i of the slice is the height at node i
     pub entry-height : (i : ℕ) → i < q → getD after i (pos 0) ≡ height U m n (control m l) (nodeX g i) (nodeY g i)
-    unfolding rasterCall
     entry-height i h =
-        let f : ℕ → ℤ = λ k. height U m n (control m l) (nodeX g k) (nodeY g k) in
-        ap (λ v. getD v i (pos 0)) (call-after (rasterCheck m n U l g d) _ _ d (told r) after rules q is)
-        ∙ rw many (getD-over (tabulate q f) d i (pos 0) (rw (length-tabulate q f) h) ∙ getD-tabulate q f i (pos 0) h)
+        ap (λ v. getD v i (pos 0)) written ∙ getD-over (tabulate q heightAt) d i (pos 0) (rw (length-tabulate q heightAt) h) ∙ getD-tabulate q heightAt i (pos 0) h
 
     pub entry-in-range : (i : ℕ) → i < q → natAbs (getD after i (pos 0)) ≤ 4_000_000_000
     entry-in-range i h =

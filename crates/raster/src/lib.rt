@@ -1,6 +1,6 @@
 // Rasters: the heights of columns × rows nodes, row by row, worked in strips of 64 columns.
 ghost use mathlib.Core.Path.{_≡_};
-ghost use Prim.Native.Nat.{_*_, _<_, min};
+ghost use Prim.Native.Nat.{_*_, _<_};
 ghost use mathlib.Core.List.{List};
 ghost use lib.IntN.{ℤ};
 ghost use lib.ListN.{length};
@@ -15,12 +15,6 @@ use answers::Refusal;
 use answers::Verdict;
 use checks::Readiness;
 use strips::Strip;
-
-fn lesser(a: usize, b: usize) -> usize
-    ensures { λ r. ⌜ r ≡ min a b ⌝ }
-{
-    if a < b { a } else { b }
-}
 
 // The raster of a lattice and of nodes that are known to be in range and inside.
 fn raster_within(
@@ -44,7 +38,7 @@ fn raster_within(
     let unit = 1 << e;
     let mut column = 0;
     while column < columns {
-        let w = lesser(columns - column, 64);
+        let w = machine::lesser(columns - column, 64);
         let s = Strip {
             m,
             n,

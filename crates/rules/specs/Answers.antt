@@ -30,6 +30,8 @@ pub data Refusal : Type 0 where
   sum : ℕ → Refusal
   -- "step above 8,192, or columns or rows above 8,193"
   size : Refusal
+  -- "a side outside its range", of document 02
+  side : Refusal
   -- "record incomplete", "wrong mark": the byte of its start
   incomplete : ℕ → Refusal
   mark : ℕ → Refusal
@@ -38,7 +40,7 @@ pub data Refusal : Type 0 where
   -- "bytes after the end": the first such byte
   trailing : ℕ → Refusal
 
--- the column "Number", and of document 02 "13 for a residual and 14 for a sum" and 15
+-- the column "Number", and of document 02 "13 for a residual and 14 for a sum", 15 and 16
 abbrev pub number : Refusal → ℕ
 number cells = 1
 number levels = 2
@@ -52,6 +54,7 @@ number (quotient k) = 7
 number (residual k) = 13
 number (sum k) = 14
 number size = 8
+number side = 16
 number (incomplete b) = 9
 number (mark b) = 10
 number (field b) = 11
@@ -71,6 +74,7 @@ place (quotient k) = k
 place (residual k) = k
 place (sum k) = k
 place size = 0
+place side = 0
 place (incomplete b) = b
 place (mark b) = b
 place (field b) = b
@@ -90,6 +94,7 @@ inLevels (quotient k) = true
 inLevels (residual k) = true
 inLevels (sum k) = true
 inLevels size = false
+inLevels side = false
 inLevels (incomplete b) = false
 inLevels (mark b) = false
 inLevels (field b) = false

@@ -1,5 +1,5 @@
 -- The calls of documents 01 and 02 on lent slices: each one's checks in their order, and then its answer and what its slices hold afterwards. Definitions only.
--- Files have theirs in LatticeFile and PointFile, the program in Program.
+-- Files have theirs in LatticeFile and PointFile, the program in Program, pond storage in Storage.
 use Prim.Native.Nat.{ℕ, zero, suc, _+_, _*_, _/_, _%_}
 use mathlib.Core.Bool.{_&&_, _||_, cond}
 use mathlib.Core.Option.{none, some}
@@ -40,6 +40,10 @@ hCheck h = require (leb h 5) levels
 -- 3: "x, y, z lists differ in length, or over 65,535 points"
 unfoldable pub listsCheck : Survey → Check
 listsCheck s = let p = pointCount s in require (eqb p (length (s .ys)) && eqb p (length (s .zs)) && leb p 65_535) lists
+
+-- 8: "columns or rows above 8,193"
+unfoldable pub countsCheck : ℕ → ℕ → Check
+countsCheck across down = require (leb across 8_193 && leb down 8_193) size
 
 -- 6, over a lattice: the first control value out of range
 unfoldable pub latticeCheck : ℕ → ℕ → List ℤ → Check
@@ -129,7 +133,7 @@ nodeY g q = g .y0 + g .step * (q / g .across)
 
 -- 8: "step above 8,192, or columns or rows above 8,193"
 unfoldable pub sizeCheck : ℕ → ℕ → ℕ → Check
-sizeCheck step across down = require (leb step 8_192 && leb across 8_193 && leb down 8_193) size
+sizeCheck step across down = require (leb step 8_192) size then countsCheck across down
 
 -- 5: node q, and the first node, that is past the last position along x or along y
 unfoldable pub nodeCheck : ℕ → ℕ → Nodes → ℕ → Check

@@ -1,17 +1,21 @@
 -- "Table of checked examples" of document 01: E1 to E8 and the three near examples, with slopes that tell the order of their roundings, bases that tell
--- near from floor and what a raster's step 0 stands for, as one computed table.
-use Prim.Native.Nat.{ℕ, zero, suc, _+_, _/_, _%_}
+-- near from floor, what a raster's step 0 stands for, and storages with the order of their refusals, as one computed table.
+use Prim.Native.Nat.{ℕ, zero, suc, _+_, _*_, _/_, _%_}
 use mathlib.Core.Bool.{Bool, true, false, _&&_, cond}
+use mathlib.Core.Option.{none, some}
 use mathlib.Core.List.{List, [], _∷_}
 use lib.Dec.{T, eqb}
 use lib.IntN.{ℤ, pos, negsuc, negℤ}
+use Rattle.algebra.specs.Difference.{posPart}
 use Rattle.rules.specs.Rounding.{floor, near}
-use Rattle.rules.specs.Grid.{Lattice}
+use Rattle.rules.specs.Grid.{Lattice, inRange, within}
 use Rattle.rules.specs.Surface.{square, cube, numerator, denominator, cell, offset, weighted, along, height}
 use Rattle.rules.specs.Slope.{slopeNumerator, slopeDenominator, slopeAlong, slopeX, slopeY}
 use Rattle.rules.specs.Refinement.{masked, finer, finer2, refined}
 use Rattle.rules.specs.Fit.{total, nearMean, base}
-use Rattle.rules.specs.Calls.{defaultStep, stepOf, nodes, nodeX, nodeY}
+use Rattle.rules.specs.Answers.{number, place, Check, require, _then_, firstOf, rangeCheck}
+use Rattle.rules.specs.Calls.{defaultStep, stepOf, nodes, nodeX, nodeY, countsCheck}
+use Rattle.rules.specs.Storage.{depth, depths, litres, storage, sideCheck, pondCheck, stageCheck, heightsCheck, storageCheck}
 
 -- "one control value set, others 0": v in column s and row t, which are the indices (s - 1, t - 1)
 unfoldable pub single : ℕ → ℕ → ℤ → Lattice
@@ -48,6 +52,15 @@ refinedAt f i j = refined f (i + 1) (j + 1)
 unfoldable pub nonzero : Lattice → ℕ → ℕ
 nonzero f zero = 0
 nonzero f (suc q) = nonzero f q + cond (equal (refined f (q % 5) (q / 5)) (pos 0)) 0 1
+
+-- a refusal's number, and its place as thousandths; 0 for none
+unfoldable pub refusalOf : Check → ℤ
+refusalOf none = pos 0
+refusalOf (some r) = pos (1_000 * number r + place r)
+
+-- out of range
+abbrev high : ℤ
+high = pos 4_000_000_001
 
 unfoldable pub table : List Line
 table =
@@ -90,9 +103,22 @@ table =
     ∷ (pos (nodeY (nodes 1 2 0 2 2) 3) is pos 10)
     ∷ (pos (nodeX (nodes 1 2 16 2 2) 3) is pos 17)
     ∷ (pos (nodeY (nodes 1 2 16 2 2) 3) is pos 18)
+    -- "the floor of (sum of depths × s²) / 100,000 litres": two depths of half a litre; one of a litre less 1 micrometre; one of a litre beside a node that
+    -- is dry by 1 micrometre; a litre 1 millimetre deep on a square metre
+    ∷ (pos (storage 1 2 (pos 0 ∷ pos 0 ∷ []) (pos 50_000) 1) is pos 1)
+    ∷ (pos (storage 1 1 (pos 1 ∷ []) (pos 100_000) 1) is pos 0)
+    ∷ (pos (storage 2 1 (negℤ (pos 100_000) ∷ pos 1 ∷ []) (pos 0) 1) is pos 1)
+    ∷ (pos (storage 1 1 (pos 0 ∷ []) (pos 1_000) 10) is pos 1)
+    -- its refusals: 8, 4, 16, then 6, "the stage as index 0 and then the heights from 1"; past the raster nothing is looked at
+    ∷ (refusalOf (storageCheck 0 8_194 [] high 0) is pos 8_000)
+    ∷ (refusalOf (storageCheck 1 1 [] high 0) is pos 4_000)
+    ∷ (refusalOf (storageCheck 1 1 (high ∷ []) high 101) is pos 16_000)
+    ∷ (refusalOf (storageCheck 1 1 (high ∷ []) high 100) is pos 6_000)
+    ∷ (refusalOf (storageCheck 1 2 (pos 0 ∷ high ∷ []) (pos 0) 1) is pos 6_002)
+    ∷ (refusalOf (storageCheck 1 1 (pos 0 ∷ high ∷ []) (pos 0) 1) is pos 0)
     ∷ []
 
 -- the whole table, computed
 pub examples : T (allHold table)
-unfolding table allHold _is_ equal single heightOf refinedAt nonzero floor near square cube numerator denominator cell offset weighted along height masked finer finer2 refined slopeNumerator slopeDenominator slopeAlong slopeX slopeY total nearMean base defaultStep stepOf nodeX nodeY
+unfolding table allHold _is_ equal single heightOf refinedAt nonzero floor near square cube numerator denominator cell offset weighted along height masked finer finer2 refined slopeNumerator slopeDenominator slopeAlong slopeX slopeY total nearMean base defaultStep stepOf nodeX nodeY refusalOf posPart depth depths litres storage inRange within require _then_ firstOf rangeCheck countsCheck sideCheck pondCheck stageCheck heightsCheck storageCheck
 examples = tt

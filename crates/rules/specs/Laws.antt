@@ -8,6 +8,7 @@ pub mod Surface
 pub mod Slope
 pub mod TwoScale
 pub mod Raster
+pub mod Storage
 pub mod Fit
 pub mod Base
 pub mod Levels

@@ -6,6 +6,7 @@ pub mod Level
 pub mod Refinement
 pub mod Fit
 pub mod Calls
+pub mod Storage
 pub mod Demand3
 pub mod Bytes
 pub mod LatticeFile

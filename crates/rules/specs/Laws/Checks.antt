@@ -6,7 +6,7 @@ use mathlib.Core.Option.{none, some}
 use mathlib.Core.List.{List}
 use Prim.Native.Nat.{ℕ, zero, suc, _+_, _≤_, _<_}
 use native.Mathlib.Numerals.{add-one}
-use native.Mathlib.Nat.{not-suc-le-zero}
+use native.Mathlib.Nat.{not-suc-le-zero, add-zero, add-suc}
 use native.Mathlib.Decide.{decLt}
 use native.Mathlib.Omega.{arith}
 use borrow.Author.Tests.{leb-true, leb-false, ne-eqb}
@@ -15,7 +15,7 @@ use lib.IntN.{ℤ, pos, natAbs}
 use lib.ListN.{getD}
 use mir.Facts.{and-yes, yes-and}
 use Rattle.rules.specs.Grid.{limit, inRange, within}
-use Rattle.rules.specs.Answers.{Refusal, cells, levels, unit, lists, short, position, range, difference, quotient, residual, sum, size, incomplete, mark, field, trailing, number, inLevels}
+use Rattle.rules.specs.Answers.{Refusal, cells, levels, unit, lists, short, position, range, difference, quotient, residual, sum, size, side, incomplete, mark, field, trailing, number, inLevels}
 use Rattle.rules.specs.Answers.{Check, require, _then_, firstOf, rangeCheck, Answer, accepted, refused, answer, Outcome, outcome, call}
 
 -- ---- one check
@@ -65,6 +65,12 @@ then-both c d e = (then-first c d e, then-rest c d e)
 pub then-none : (c d : Check) → c ≡ none → (c then d) ≡ d
 unfolding _then_
 then-none c d e = rw e refl
+
+-- a check after which there is none
+pub then-pass : (c : Check) → (c then none) ≡ c
+unfolding _then_
+then-pass none = refl
+then-pass (some r) = refl
 
 pub then-some : (c d : Check) {r : Refusal} → c ≡ some r → (c then d) ≡ some r
 unfolding _then_
@@ -260,6 +266,28 @@ rangeCheck-refusal n values f r e =
     let here = require-refusal _ (f (q .at)) r (q .refuses) in
     (q .at, q .below, record { none-before = before; out = here .0 }, here .1)
 
+-- w values from place i on, in a list of their own
+abbrev pub Part : ℕ → ℕ → List ℤ → List ℤ → Type 0
+Part i w values part = (k : ℕ) → k < w → getD part k (pos 0) ≡ getD values (i + k) (pos 0)
+
+-- a check of the values before a part and of the part is a check of both
+pub rangeCheck-part : (i w : ℕ) (values part : List ℤ) (f : ℕ → Refusal) → Part i w values part
+    → rangeCheck (i + w) values f ≡ (rangeCheck i values f then rangeCheck w part (λ k. f (i + k)))
+unfolding rangeCheck firstOf
+rangeCheck-part i zero values part f h = ap (λ n. rangeCheck n values f) (add-zero i) ∙ sym (then-pass (rangeCheck i values f))
+rangeCheck-part i (suc w) values part f h =
+    ap (λ n. rangeCheck n values f) (add-suc i w)
+    ∙ ap₂ (λ c z. c then require (inRange z) (f (i + w))) (rangeCheck-part i w values part f (λ k l. h k (omega arith))) (sym (h w (omega arith)))
+    ∙ then-assoc (rangeCheck i values f) (rangeCheck w part (λ k. f (i + k))) (require (inRange (getD part w (pos 0))) (f (i + w)))
+
+-- what is refused of fewer values is refused of more
+pub rangeCheck-longer : (m n : ℕ) (values : List ℤ) (f : ℕ → Refusal) (r : Refusal) → m ≤ n → rangeCheck m values f ≡ some r → rangeCheck n values f ≡ some r
+unfolding rangeCheck
+rangeCheck-longer m n values f r l e =
+    let each : ℕ → Check = λ i. require (inRange (getD values i (pos 0))) (f i) in
+    let q = firstOf-refusal m each r e in
+    firstOf-at n (q .at) each r (q .none-before) (omega (arith, q .below)) (q .refuses)
+
 -- ---- answers
 
 -- the numbers that a level of a fit gives
@@ -280,6 +308,7 @@ in-levels (quotient k) = refl
 in-levels (residual k) = refl
 in-levels (sum k) = refl
 in-levels size = refl
+in-levels side = refl
 in-levels (incomplete b) = refl
 in-levels (mark b) = refl
 in-levels (field b) = refl
@@ -303,6 +332,7 @@ number-some (quotient k) e = omega arith
 number-some (residual k) e = omega arith
 number-some (sum k) e = omega arith
 number-some size e = omega arith
+number-some side e = omega arith
 number-some (incomplete b) e = omega arith
 number-some (mark b) e = omega arith
 number-some (field b) e = omega arith
@@ -322,6 +352,15 @@ pub answer-refused : {A : Type 0} (c : Check) (a : A) (r : Refusal) → answer c
 unfolding answer
 answer-refused none a r e = let z : none ≡ some r = cc in z
 answer-refused (some s) a r e = cc
+
+-- what is answered where its check is known
+pub none-answer : {A : Type 0} {c : Check} {v : A} (a : A) → c ≡ none → v ≡ a → accepted v ≡ answer c a
+unfolding answer
+none-answer a e is = rw (e, is) refl
+
+pub some-answer : {A : Type 0} {c : Check} {r : Refusal} (a : A) → c ≡ some r → refused r ≡ answer c a
+unfolding answer
+some-answer a e = rw e refl
 
 -- ---- calls
 

@@ -14,8 +14,8 @@ use mir.Facts.{and-yes, yes-and}
 use Rattle.algebra.specs.Table.{over}
 use Rattle.rules.specs.Grid.{limit, within, inside, cellsAt, controls}
 use Rattle.rules.specs.Fit.{Shape, Survey, pointCount, pointAt, differences, fromBase, singleLattice, differenceCheck}
-use Rattle.rules.specs.Answers.{Refusal, Check, cells, levels, lists, position, range, difference, accepted, refused}
-use Rattle.rules.specs.Calls.{cellsCheck, hCheck, listsCheck, latticeCheck, pointCheck, pointsCheck, surveyCheck}
+use Rattle.rules.specs.Answers.{Refusal, Check, cells, levels, lists, position, range, difference, size, accepted, refused}
+use Rattle.rules.specs.Calls.{countsCheck, cellsCheck, hCheck, listsCheck, latticeCheck, pointCheck, pointsCheck, surveyCheck}
 use Rattle.rules.specs.Calls.{CellCounts, Lent, fitCheck, finest, results, cleared, fitEnd, fitCall}
 use Rattle.rules.specs.Laws.Base.{length-differences}
 use Rattle.rules.specs.Laws.Checks.{required, require-met, within-bounds, bounds-within, then-first, then-rest, then-none, firstOf-none, firstOf-all, AllInRange, inRange-size, size-inRange, rangeCheck-size}
@@ -82,6 +82,16 @@ edge-fits e m h k = mul-le-mul (pow-mono {i = e} {j = 9} h) k
 -- the same of a unit that is known to be 2^e
 pub last-fits : {U : ℕ} (e m : ℕ) → U ≡ 2 ^ e → e ≤ 9 → m ≤ 512 → U * m ≤ 512 * 512
 last-fits e m u h k = rw u (edge-fits e m h k)
+
+-- ---- a raster's columns and rows
+
+pub counts-passed : (across down : ℕ) → countsCheck across down ≡ none → (across ≤ 8_193) × (down ≤ 8_193)
+unfolding countsCheck
+counts-passed across down e =
+    let wide = leb across 8_193 in
+    let high = leb down 8_193 in
+    let p = and-yes wide high (required (wide && high) size e) in
+    (leb→le across 8_193 (p .0), leb→le down 8_193 (p .1))
 
 -- ---- a lattice
 

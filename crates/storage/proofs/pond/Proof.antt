@@ -1,0 +1,111 @@
+-- `storage::pond` meets its contract: each refusal is decided by the test that led to it, after the checks that passed before.
+use mathlib.Core.Path.{_≡_, sym, ap, _∙_}
+use mathlib.Core.Bool.{Bool, true, false}
+use mathlib.Core.Option.{none, some}
+use mathlib.Core.List.{List}
+use Prim.Native.Nat.{ℕ, _*_, _≤_}
+use native.Mathlib.Nat.{mul-le-mul}
+use native.Mathlib.Omega.{arith}
+use borrow.Author.Needs.{needs}
+use borrow.Author.Tests.{lt-leb, le-leb, not-true, not-false}
+use lib.Dec.{leb}
+use lib.IntN.{ℤ}
+use lib.ListN.{length}
+use Rattle.rules.specs.Grid.{within}
+use Rattle.rules.specs.Answers.{Refusal, short, side, Check, require, _then_}
+use Rattle.rules.specs.Calls.{countsCheck}
+use Rattle.rules.specs.Storage.{sideCheck, pondCheck}
+use Rattle.rules.specs.Laws.Checks.{then-none, then-some}
+use Rattle.rules.specs.Laws.Passed.{counts-passed}
+use Rattle.answers.specs.Cause.{found}
+use Rattle.storage.proofs.pond.Statement.{statement}
+use Rattle.storage.proofs.pond.Tie as tie
+
+-- ---- the check, by what was found
+
+module _ (columns rows : ℕ) (heights : List ℤ) (s : ℕ) where
+  abbrev room : Bool
+  room = leb (columns * rows) (length heights)
+
+  by-counts : {r : Refusal} → countsCheck columns rows ≡ some r → some r ≡ pondCheck columns rows heights s
+  unfolding pondCheck
+  by-counts e = sym (then-some (countsCheck columns rows) _ e)
+
+  module _ (counted : countsCheck columns rows ≡ none) where
+    behind : pondCheck columns rows heights s ≡ (require room short then sideCheck s)
+    unfolding pondCheck
+    behind = then-none (countsCheck columns rows) _ counted
+
+    by-room : room ≡ false → some short ≡ pondCheck columns rows heights s
+    unfolding require _then_
+    by-room e = sym (behind ∙ ap (λ b. require b short then sideCheck s) e)
+
+    by-side : {b : Bool} → room ≡ true → within 1 100 s ≡ b → require b side ≡ pondCheck columns rows heights s
+    unfolding sideCheck require _then_
+    by-side e f = sym (behind ∙ ap (λ b. require b short then sideCheck s) e ∙ ap (λ b. require b side) f)
+
+-- ---- what it finds
+
+module _ (c : tie.After-enum-told) where
+  counted : countsCheck (c .before .before .before .args .columns) (c .before .before .before .args .rows) ≡ none
+  counted = found (c .before .before .counts .ensures) (c .enum-told .given .1)
+
+returns : tie.Need-returns
+returns c =
+    let a = c .before .before .before .before .args in
+    by-counts (a .columns) (a .rows) (a .heights .now) (a .side) (found (c .before .before .before .counts .ensures) (c .before .r .given .1))
+
+returns-2 : tie.Need-returns-2
+returns-2 c =
+    let a = c .before .before .before .before .args in
+    by-room (a .columns) (a .rows) (a .heights .now) (a .side) (counted (c .before)) (lt-leb (a .columns * a .rows) (length (a .heights .now)) (c .if1 .taken))
+
+-- the last test
+module _ (c : tie.After-within) where
+  decided : {b : Bool} → c .within .result ≡ b → let a = c .before .before .before .before .before .args in require b side ≡ pondCheck (a .columns) (a .rows) (a .heights .now) (a .side)
+  decided is =
+      let a = c .before .before .before .before .before .args in
+      by-side (a .columns) (a .rows) (a .heights .now) (a .side) (counted (c .before .before)) (le-leb (a .columns * a .rows) (length (a .heights .now)) (c .before .if1 .left))
+      (sym (c .within .ensures) ∙ is)
+
+returns-3 : tie.Need-returns-3
+unfolding require
+returns-3 c = decided (c .before) (not-true _ (c .if2 .taken))
+
+returns-4 : tie.Need-returns-4
+unfolding require
+returns-4 c = decided (c .before) (not-false _ (c .if2 .left))
+
+-- ---- what its steps ask
+
+counts-requires : tie.Need-counts-requires
+counts-requires c κs = search needs
+
+enum-known-r : tie.Need-enum-known-r
+enum-known-r c = search needs
+
+enum-told : tie.Need-enum-told
+enum-told c = search needs
+
+mul-if1 : tie.Need-mul-if1
+mul-if1 c =
+    let a = c .before .before .before .args in
+    let p = counts-passed (a .columns) (a .rows) (counted c) in
+    omega (arith, mul-le-mul (p .0) (p .1))
+
+within-requires : tie.Need-within-requires
+within-requires c κs = search needs
+
+pub pond-spec : {M : Type 1} → statement M
+pond-spec =
+    tie.close
+    (tie.spec
+    counts-requires
+    enum-known-r
+    returns
+    enum-told
+    mul-if1
+    returns-2
+    within-requires
+    returns-3
+    returns-4)

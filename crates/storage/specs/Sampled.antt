@@ -1,0 +1,61 @@
+-- A raster as it is promised: what an accepted call of `raster` leaves, in the words of its contract; and what of it storage can then refuse.
+use mathlib.Core.Path.{_≡_, ap, _∙_}
+use mathlib.Core.Option.{none}
+use mathlib.Core.List.{List}
+use Prim.Native.Nat.{ℕ, _+_, _*_}
+use lib.Dec.{leb, le→leb}
+use lib.IntN.{ℤ}
+use lib.ListN.{length}
+use Rattle.rules.specs.Answers.{short, range, require, _then_, accepted, answer, outcome}
+use Rattle.rules.specs.Calls.{Nodes, countsCheck, nodes, rasterCall}
+use Rattle.rules.specs.Storage.{storage, sideCheck, pondCheck, stageCheck, heightsCheck, storageCheck, storageAnswer}
+use Rattle.rules.specs.Laws.Checks.{require-met, then-none, then-pass, size-rangeCheck}
+use Rattle.raster.specs.Promises.{many, counted, entries-held, entry-in-range}
+use Rattle.answers.specs.CountTold.{told}
+use Rattle.answers.specs.declared.CountTold.{CountTold}
+
+-- these heights are the slice that was lent to an accepted raster of so many columns and rows
+pub record Sampled (columns rows : ℕ) (heights : List ℤ) : Type 0 where
+  pub m : ℕ
+  pub n : ℕ
+  pub unit : ℕ
+  pub lattice : List ℤ
+  pub x0 : ℕ
+  pub y0 : ℕ
+  pub step : ℕ
+  pub lent : List ℤ
+  pub answered : CountTold
+  pub rules : outcome (told answered) heights ≡ rasterCall m n unit lattice (nodes x0 y0 step columns rows) lent
+  pub count : ℕ
+  pub is : told answered ≡ accepted count
+
+module _ {columns rows : ℕ} {heights : List ℤ} (s : Sampled columns rows heights) where
+  abbrev g : Nodes
+  g = nodes (s .x0) (s .y0) (s .step) columns rows
+
+  count-is : columns * rows ≡ s .count
+  count-is = many (s .m) (s .n) (s .unit) (s .lattice) g (s .lent) (s .answered) heights (s .rules) (s .count) (s .is)
+
+  -- no height is refused
+  pub heights-unrefused : heightsCheck (columns * rows) heights ≡ none
+  unfolding heightsCheck
+  heights-unrefused =
+      size-rangeCheck (columns * rows) heights (λ i. range (i + 1))
+      (λ i l. entry-in-range (s .m) (s .n) (s .unit) (s .lattice) g (s .lent) (s .answered) heights (s .rules) (s .count) (s .is) i (rw (← count-is) l))
+
+  -- nor are the columns, the rows and the slice
+  pub sampled-check : (stage : ℤ) (side : ℕ) → storageCheck columns rows heights stage side ≡ (sideCheck side then stageCheck stage)
+  unfolding storageCheck pondCheck
+  sampled-check stage side =
+      let room = leb (columns * rows) (length heights) in
+      let counts = counted (s .m) (s .n) (s .unit) (s .lattice) g (s .lent) (s .answered) heights (s .rules) (s .count) (s .is) in
+      let held = entries-held (s .m) (s .n) (s .unit) (s .lattice) g (s .lent) (s .answered) heights (s .rules) (s .count) (s .is) in
+      ap (λ c. c then stageCheck stage then heightsCheck (columns * rows) heights)
+      (then-none (countsCheck columns rows) _ counts ∙ then-none (require room short) _ (require-met room short (le→leb (columns * rows) (length heights) (rw count-is held))))
+      ∙ ap (λ c. sideCheck side then stageCheck stage then c) heights-unrefused
+      ∙ ap (λ c. sideCheck side then c) (then-pass (stageCheck stage))
+
+  -- so that only the side and the stage can be
+  pub sampled-answer : (stage : ℤ) (side : ℕ) → storageAnswer columns rows heights stage side ≡ answer (sideCheck side then stageCheck stage) (storage columns rows heights stage side)
+  unfolding storageAnswer
+  sampled-answer stage side = ap (λ c. answer c (storage columns rows heights stage side)) (sampled-check stage side)

@@ -1,0 +1,109 @@
+/*
+ * Random cases of pond storage.
+ */
+#include "cases.h"
+#include "trial.h"
+
+#define MOST_SIDE 100
+
+/* In range: beside one of the heights, at an end, or anywhere. */
+static int64_t some_stage(generator *g, const draft *d)
+{
+    const int64_t *heights = d->call.slice[VALUES].at;
+    int64_t beside;
+
+    if (d->exact[VALUES] > 0 && once_in(g, 2)) {
+        beside = heights[below(g, d->exact[VALUES])] + between(g, -2, 2);
+        return beside < -LIMIT ? -LIMIT : beside > LIMIT ? LIMIT : beside;
+    }
+    return once_in(g, 3) ? (once_in(g, 2) ? LIMIT : -LIMIT) : between(g, -LIMIT, LIMIT);
+}
+
+static size_t some_side(generator *g)
+{
+    return once_in(g, 3) ? 1 : once_in(g, 3) ? MOST_SIDE : 1 + below(g, MOST_SIDE);
+}
+
+/* Columns and rows: a few, a long row or column, or a raster whose sum of depths times side² leaves 64 bits. */
+static void some_counts(generator *g, draft *d, size_class size)
+{
+    size_t *columns = &d->call.number[COLUMNS], *rows = &d->call.number[ROWS];
+
+    if (size == LARGEST) {
+        *columns = *rows = 600 + below(g, 400);
+    } else if (size == MEDIUM) {
+        *columns = once_in(g, 2) ? MOST_NODES : 1 + below(g, 20);
+        *rows = *columns == MOST_NODES ? below(g, 20) : MOST_NODES - below(g, 20);
+    } else {
+        *columns = below(g, once_in(g, 8) ? 40 : 6);
+        *rows = below(g, once_in(g, 8) ? 40 : 6);
+    }
+}
+
+static void storage_trouble(generator *g, draft *d)
+{
+    size_t *v = d->call.number;
+
+    switch (below(g, 5)) {
+    case 0:
+        v[once_in(g, 2) ? COLUMNS : ROWS] = once_in(g, 2) ? MOST_NODES + 1 : wrong_number(g, 1);
+        break;
+    case 1:
+        v[NODE_SIDE] = once_in(g, 2) ? 0 : once_in(g, 2) ? MOST_SIDE + 1 : wrong_number(g, 1);
+        break;
+    case 2:
+        v[STAGE] = (size_t)wrong_value(g);
+        break;
+    case 3:
+        spoil(g, d, VALUES);
+        break;
+    default:
+        shorten(g, d, VALUES);
+        break;
+    }
+}
+
+/* The same raster at a higher stage. */
+static void raise_stage(generator *g, draft *d, answer lower)
+{
+    size_t *v = d->call.number;
+    answer higher;
+
+    v[STAGE] = (size_t)between(g, (int64_t)v[STAGE], LIMIT);
+    higher = trial(&d->call);
+    if (higher.field[NUMBER] != 0 || higher.field[FIRST] < lower.field[FIRST])
+        trial_failed(&d->call, "a higher stage stores less, or is refused");
+}
+
+void storage_case(generator *g, size_class size)
+{
+    draft d = new_draft(STORAGE_AT);
+    answer a;
+
+    some_counts(g, &d, size);
+    some_raster(g, &d);
+    d.call.number[STAGE] = (size_t)some_stage(g, &d);
+    d.call.number[NODE_SIDE] = some_side(g);
+    some_troubles(g, &d, storage_trouble);
+    a = trial(&d.call);
+    if (a.field[NUMBER] == 0)
+        raise_stage(g, &d, a);
+}
+
+/* A raster, and the storage of what it has left: refused for the side or the stage alone. */
+void sampled_case(generator *g, size_class size)
+{
+    draft d = some_sampling(g, size);
+    size_t *v = d.call.number;
+    answer a;
+
+    if (trial(&d.call).field[NUMBER] != 0)
+        return;
+    d.call.function = STORAGE_AT;
+    v[NODE_SIDE] = once_in(g, 8) ? MOST_SIDE + 1 : some_side(g);
+    v[STAGE] = (size_t)(once_in(g, 8) ? wrong_value(g) : some_stage(g, &d));
+    a = trial(&d.call);
+    if (a.field[NUMBER] != (v[NODE_SIDE] > MOST_SIDE ? 16 : (int64_t)v[STAGE] < -LIMIT || (int64_t)v[STAGE] > LIMIT ? 6 : 0)
+        || a.field[PLACE] != 0)
+        trial_failed(&d.call, "a raster that was accepted is refused");
+}
