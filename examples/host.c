@@ -76,7 +76,7 @@ static const struct { const char *words, *place; } refusals[] = {
     { "x, y, z lists differ in length, or over 65,535 points", "0" },
     { "a lent slice is too short", "0" },
     { "position outside", "the point's or node's index, 0 for a single height or slope" },
-    { "height or control value out of range", "its index" },
+    { "height or control value out of range", "its index; of a storage 0 for the stage, and the heights from 1" },
     { "a quotient out of range in a level of the fit", "the level" },
     { "step above 8,192, or columns or rows above 8,193", "0" },
     { "record incomplete", "the byte of the record's start" },
@@ -86,6 +86,7 @@ static const struct { const char *words, *place; } refusals[] = {
     { "a residual out of range in a level of the fit", "the level" },
     { "a sum out of range in a level of the fit", "the level" },
     { "a difference from the base of the fit out of range", "the point's index" },
+    { "a node side outside 1..100 decimetres", "0" },
 };
 
 /* The point file is named, so that the words can be told apart where many hosts run side by side. */

@@ -22,6 +22,9 @@ test_case fit_case, range_end_case, leap_case, tie_case, height_case, slope_case
  */
 test_case storage_case, sampled_case;
 
+/* The storage of the largest raster, by its known litres. */
+void largest_storage(void);
+
 /* A raster's call, with no trouble. */
 draft some_sampling(generator *g, size_class size);
 
@@ -44,8 +47,8 @@ size_t some_point_count(generator *g, size_class size);
 void every_file_damage(int few_values);
 
 /*
- * The examples of documents 01 and 02 by their printed values, slopes and bases by known ones, a fit refused for each figure,
- * and each value of some lattices out of range in turn; returns how many examples there are.
+ * The examples of documents 01 and 02 by their printed values, slopes, bases and storages by known ones, a fit refused for each
+ * figure, and each value of some lattices and rasters out of range in turn; returns how many examples there are.
  */
 size_t run_examples(void);
 

@@ -1,6 +1,6 @@
 /*
  * The examples of document 01 ("Table of checked examples"), as document 02 leaves them, and a few more with known answers,
- * among them slopes and a fit refused for each figure, each as a trial whose answer and results are held to those values.
+ * among them slopes, storages and a fit refused for each figure, each as a trial whose answer and results are held to those values.
  */
 #include "cases.h"
 #include "trial.h"
@@ -386,6 +386,94 @@ static void offender_examples(void)
     }
 }
 
+/* ---- storages: heights in one row ---- */
+
+static draft row_of_heights(const int64_t *heights, size_t columns, int64_t stage, size_t side)
+{
+    draft d = new_draft(STORAGE_AT);
+    size_t *v = d.call.number;
+
+    v[COLUMNS] = columns;
+    v[ROWS] = 1;
+    v[STAGE] = (size_t)stage;
+    v[NODE_SIDE] = side;
+    lend(&g, &d, VALUES, columns);
+    memcpy(d.call.slice[VALUES].at, heights, columns * sizeof *heights);
+    return d;
+}
+
+static void storage_example(const char *name, int64_t first, int64_t second, int64_t stage, size_t side, uint64_t litres)
+{
+    const int64_t heights[] = { first, second };
+    const draft d = row_of_heights(heights, 2, stage, side);
+
+    begin(name);
+    expect(&d, 0, 0, litres, 0);
+}
+
+/* Faults put right one by one: 8, 4, 16, then 6 of the stage and of the second height, and then accepted. */
+static void storage_refusals(void)
+{
+    const int64_t heights[] = { -LIMIT, LIMIT + 1 };
+    draft d = row_of_heights(heights, 2, -LIMIT - 1, 101);
+    size_t *v = d.call.number;
+    int64_t *values = d.call.slice[VALUES].at;
+
+    begin("the refusals of a storage, in their order");
+    v[ROWS] = MOST_NODES + 1;
+    d.call.slice[VALUES].length = 1;
+    expect(&d, 8, 0, 0, 0);
+    v[ROWS] = 1;
+    expect(&d, 4, 0, 0, 0);
+    d.call.slice[VALUES].length = 2;
+    expect(&d, 16, 0, 0, 0);
+    v[NODE_SIDE] = 0;
+    expect(&d, 16, 0, 0, 0);
+    v[NODE_SIDE] = 100;
+    expect(&d, 6, 0, 0, 0);
+    v[STAGE] = (size_t)LIMIT;
+    expect(&d, 6, 2, 0, 0);
+    values[1] = LIMIT;
+    expect(&d, 0, 0, 800000000, 0);
+    v[COLUMNS] = 0;                             /* and with no heights at all the stage is still asked */
+    expect(&d, 0, 0, 0, 0);
+    v[STAGE] = (size_t)(LIMIT + 1);
+    expect(&d, 6, 0, 0, 0);
+}
+
+/* Each height out of range in turn, in rows about as long as a block of the scan: its place is one more than its index. */
+static void storage_offenders(size_t columns)
+{
+    static const int64_t zeros[130];
+    draft d = row_of_heights(zeros, columns, 1, 100);
+    int64_t *heights = d.call.slice[VALUES].at;
+    size_t at;
+
+    expect(&d, 0, 0, columns / 10, 0);
+    for (at = 0; at < columns; at++) {
+        heights[at] = at % 2 == 0 ? LIMIT + 1 : INT64_MIN;
+        expect(&d, 6, at + 1, 0, 0);
+        heights[at] = 0;
+    }
+}
+
+static void storage_examples(void)
+{
+    static const size_t columns[] = { 1, 2, 63, 64, 65, 127, 128, 129, 130 };
+    size_t at;
+
+    storage_example("two half litres", 0, 0, 50000, 1, 1);
+    storage_example("a litre less a micrometre", 1, 100001, 100000, 1, 0);
+    storage_example("a litre beside a dry node", 0, 100001, 100000, 1, 1);
+    storage_example("a litre a millimetre deep", 1000, 0, 1000, 10, 1);
+    storage_example("a storage below the datum", -300000, -200001, -200000, 1, 1);
+    storage_example("the deepest two nodes", -LIMIT, -LIMIT, LIMIT, 100, UINT64_C(1600000000));
+    storage_refusals();
+    begin("every height out of range in turn");
+    for (at = 0; at < COUNT(columns); at++)
+        storage_offenders(columns[at]);
+}
+
 /* ---- files: the lattice file of 1 by 1 zero cells, whole and with its rows tampered with ---- */
 
 static size_t zero_lattice_file(uint8_t *file, size_t rows)
@@ -450,6 +538,7 @@ size_t run_examples(void)
     lattice_examples();
     slope_examples();
     offender_examples();
+    storage_examples();
     file_examples();
     return examples;
 }

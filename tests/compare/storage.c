@@ -1,8 +1,13 @@
 /*
- * Random cases of pond storage.
+ * Random cases of pond storage, and the largest raster there is.
  */
+#define _DEFAULT_SOURCE                 /* MAP_ANONYMOUS */
+
 #include "cases.h"
 #include "trial.h"
+
+#include <string.h>
+#include <sys/mman.h>
 
 #define MOST_SIDE 100
 
@@ -106,4 +111,33 @@ void sampled_case(generator *g, size_class size)
     if (a.field[NUMBER] != (v[NODE_SIDE] > MOST_SIDE ? 16 : (int64_t)v[STAGE] < -LIMIT || (int64_t)v[STAGE] > LIMIT ? 6 : 0)
         || a.field[PLACE] != 0)
         trial_failed(&d.call, "a raster that was accepted is refused");
+}
+
+/*
+ * 8,193 by 8,193 nodes at height 0, 4,000 metres under water: pages that nobody has written are one page of zeros, so that they
+ * take no memory. The sum of depths times side² is 145 times what 64 bits hold.
+ */
+void largest_storage(void)
+{
+    const size_t nodes = (size_t)MOST_NODES * MOST_NODES;
+    draft d = new_draft(STORAGE_AT);
+    size_t *v = d.call.number;
+    answer library, reference;
+    void *heights = mmap(NULL, nodes * sizeof(int64_t), PROT_READ, MAP_PRIVATE | MAP_ANONYMOUS | MAP_NORESERVE, -1, 0);
+
+    if (heights == MAP_FAILED) {
+        fprintf(stderr, "no memory\n");
+        exit(2);
+    }
+    v[COLUMNS] = v[ROWS] = MOST_NODES;
+    v[STAGE] = (size_t)LIMIT;
+    v[NODE_SIDE] = MOST_SIDE;
+    d.call.slice[VALUES].at = heights;
+    d.call.slice[VALUES].length = nodes;
+    library = run_library(&d.call);
+    reference = run_reference(&d.call);
+    if (library.field[NUMBER] != 0 || library.field[FIRST] != UINT64_C(26850099600000000)
+        || memcmp(&library, &reference, sizeof library) != 0)
+        trial_failed(NULL, "the storage of the largest raster");
+    munmap(heights, nodes * sizeof(int64_t));
 }

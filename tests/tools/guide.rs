@@ -1,5 +1,5 @@
 
-// Follows the declarations of docs/HOST.md: calls each of the nine functions. m0, n0, h and p all differ, and so do m and n, so that
+// Follows the declarations of docs/HOST.md: calls each of the ten functions. m0, n0, h and p all differ, and so do m and n, so that
 // two fields or two arguments that changed places are seen.
 fn main() {
     let (m0, n0, h, x, y, z) = (4, 3, 1, [0u16, 100], [0u16, 50], [9i64, -7]);
@@ -32,6 +32,13 @@ fn main() {
     assert_eq!(nodes, Count { number: 0, place: 0, count: 6 });
     assert_eq!(raster[2], height.height);
 
+    let storage_at = |stage, side| unsafe { curlew_storage_at(3, 2, raster.as_ptr(), 6, stage, side) };
+    // a metre over the first node, 3 by 2 squares of a decimetre: 10 litres each, less what the others stand over it
+    let lower: i64 = raster.iter().map(|&z| raster[0] + 1_000_000 - z).sum();
+    assert_eq!(storage_at(raster[0] + 1_000_000, 1), Storage { number: 0, place: 0, litres: lower as u64 / 100_000 });
+    assert_eq!(storage_at(0, 101), Storage { number: 16, place: 0, litres: 0 });
+    assert_eq!(unsafe { curlew_storage_at(2, 1, [0i64, 4_000_000_001].as_ptr(), 2, 0, 1) }, Storage { number: 6, place: 2, litres: 0 });
+
     let (mut file, mut read) = (vec![0u8; 838], vec![0i64; 99]);
     let bytes = unsafe { curlew_write_lattice(8, 6, lattice.as_ptr(), 99, file.as_mut_ptr(), 838) };
     assert_eq!(bytes, Count { number: 0, place: 0, count: 838 });
@@ -46,5 +53,5 @@ fn main() {
     };
     assert_eq!(header, Header { number: 0, place: 0, m0, n0, h, points: 2 });
     assert_eq!((x2, y2, z2), (x, y, z));
-    println!("nine functions called");
+    println!("ten functions called");
 }

@@ -1,5 +1,5 @@
 /*
- * The nine functions of curlewtable.h, answered by the second implementation (tests/reference). With this in place of the
+ * The ten functions of curlewtable.h, answered by the second implementation (tests/reference). With this in place of the
  * archive the host can be built where the Rattle kit is not, and what it prints over the one can be compared with the other.
  */
 #include "curlewtable.h"
@@ -48,6 +48,13 @@ curlew_count curlew_raster(size_t m, size_t n, size_t unit, const int64_t *latti
                            size_t step, size_t columns, size_t rows, int64_t *output, size_t output_len)
 {
     return count(ref_raster(m, n, unit, lattice, lattice_len, x0, y0, step, columns, rows, output, output_len));
+}
+
+curlew_storage curlew_storage_at(size_t columns, size_t rows, const int64_t *heights, size_t heights_len, int64_t stage, size_t side)
+{
+    ref_storage answer = ref_storage_at(columns, rows, heights, heights_len, stage, side);
+    curlew_storage same = { answer.number, answer.place, answer.litres };
+    return same;
 }
 
 curlew_cells curlew_read_lattice(const uint8_t *file, size_t file_len, int64_t *output, size_t output_len)

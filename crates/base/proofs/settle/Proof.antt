@@ -1,7 +1,7 @@
 -- `base::settle` meets its contract: where all differences are in range there is the base, and else they are gone through.
-use mathlib.Core.Path.{_≡_, refl, ap, _∙_}
+use mathlib.Core.Path.{_≡_, ap, _∙_}
 use mathlib.Core.Bool.{Bool, true}
-use mathlib.Core.Option.{none, some}
+use mathlib.Core.Option.{none}
 use mathlib.Core.List.{List}
 use native.Mathlib.Omega.{arith}
 use borrow.Author.Needs.{needs}
@@ -11,29 +11,20 @@ use mir.Syntax.{w64}
 use mir.Val.{toZ, ofZ}
 use Rattle.machine.specs.Held.{Number, number, Held, literal, read, minus, fits, small}
 use Rattle.rules.specs.Grid.{limit}
-use Rattle.rules.specs.Answers.{Refusal, difference, rangeCheck, accepted, refused, answer}
+use Rattle.rules.specs.Answers.{Refusal, difference, rangeCheck}
 use Rattle.rules.specs.Fit.{total, nearMean, base, shifted, differences, differenceCheck}
 use Rattle.rules.specs.Laws.Base.{total-size, base-size}
-use Rattle.rules.specs.Laws.Checks.{rangeCheck-size, size-rangeCheck}
+use Rattle.rules.specs.Laws.Checks.{rangeCheck-size, size-rangeCheck, none-answer, some-answer}
 use Rattle.answers.specs.Cause.{okCheck, found}
 use Rattle.base.proofs.settle.Statement.{statement}
 use Rattle.base.proofs.settle.Tie as tie
 
 -- ---- what the answer is, by what was found
 
-module _ (zs : List ℤ) where
-  base-told : {b : ℤ} → b ≡ base zs → differenceCheck zs ≡ none → accepted b ≡ answer (differenceCheck zs) (base zs)
-  unfolding answer
-  base-told e n = rw (n, e) refl
-
-  refusal-told : {r : Refusal} → differenceCheck zs ≡ some r → refused r ≡ answer (differenceCheck zs) (base zs)
-  unfolding answer
-  refusal-told e = rw e refl
-
-  -- all are in range with x added, which is 0 less the base
-  none-far : (x : ℤ) → x ≡ pos 0 -ℤ base zs → rangeCheck (length zs) (shifted x zs) difference ≡ none → differenceCheck zs ≡ none
-  unfolding differenceCheck differences
-  none-far x is e = rw (← +ℤ-idl (negℤ (base zs)), ← is) e
+-- all are in range with x added, which is 0 less the base
+none-far : (zs : List ℤ) (x : ℤ) → x ≡ pos 0 -ℤ base zs → rangeCheck (length zs) (shifted x zs) difference ≡ none → differenceCheck zs ≡ none
+unfolding differenceCheck differences
+none-far zs x is e = rw (← +ℤ-idl (negℤ (base zs)), ← is) e
 
 -- whatever refuses them
 any-refusal : (zs : List ℤ) (x : ℤ) {ok : Bool} → ((r : Refusal) → rangeCheck (length zs) (shifted x zs) (λ i. r) ≡ okCheck ok r) → ok ≡ true
@@ -68,18 +59,18 @@ module _ (c : tie.After-near-mean) where
 returns : tie.Need-returns
 returns c =
     let m = c .before .before in
-    base-told (zs m) (base-held m .is) (none-far (zs m) _ (read tt (lowering m .held) .is) (any-refusal (zs m) _ (c .before .all-shifted .ensures) (c .if1 .taken)))
+    none-answer (base (zs m)) (none-far (zs m) _ (read tt (lowering m .held) .is) (any-refusal (zs m) _ (c .before .all-shifted .ensures) (c .if1 .taken))) (base-held m .is)
 
 returns-2 : tie.Need-returns-2
 returns-2 c =
     let f = c .before .before in
     let m = f .before .before .before in
-    base-told (zs m) (base-held m .is) (found (f .first-far .ensures) (c .enum-told .given .1))
+    none-answer (base (zs m)) (found (f .first-far .ensures) (c .enum-told .given .1)) (base-held m .is)
 
 returns-3 : tie.Need-returns-3
 returns-3 c =
     let f = c .before .before .before in
-    refusal-told (zs (f .before .before .before)) (found (f .first-far .ensures) (c .before .r .given .1))
+    some-answer (base (zs (f .before .before .before))) (found (f .first-far .ensures) (c .before .r .given .1))
 
 -- ---- what its calls ask
 

@@ -1,0 +1,188 @@
+/*
+ * An example above the surface engine: reads a lattice file and prints how much the ground stores at some stages, from its lowest
+ * node to its highest.
+ *
+ *     pond LATTICE SIDE SIZE [SIZE_Y]
+ *
+ * LATTICE is a lattice file that a fit left (target/host writes one). SIDE is the side of a node's square in decimetres, 1 to 100;
+ * SIZE and SIZE_Y are the metres of a position along x and along y, as tools/points was given them (SIZE for both where SIZE_Y is
+ * not given). A side must be a whole number of positions along both axes. The squares lie edge to edge from (0, 0) on, and a node
+ * in the middle of each; what is left at the far edges, less than a square wide, is not counted.
+ *
+ * Every node below a stage counts, whether or not the water could reach it or would run off: it is the basin's own lattice that
+ * this is for.
+ *
+ * Ends with 0, with 1 where the library refuses (number and place on standard error; docs/HOST.md has the words), with 2 where the
+ * program itself cannot go on: bad usage, a file that cannot be read, no memory.
+ */
+#include "curlewtable.h"
+
+#include <errno.h>
+#include <inttypes.h>
+#include <stdio.h>
+#include <stdlib.h>
+#include <string.h>
+
+#define UNIT 16                     /* the lattice that a fit leaves is read with U = 16 */
+#define MOST_CELLS 512
+#define STAGES 10                   /* equal parts from the lowest node to the highest */
+#define MICROMETRES 1000000         /* in a metre */
+#define DECIMETRES 10               /* in a metre */
+#define EXACT 1e-9                  /* how near a number of positions is to a whole one, as a part of it */
+
+enum { DONE = 0, REFUSED = 1, FAILED = 2 };
+
+/* The ground, and the nodes that stand for its squares. */
+typedef struct {
+    curlew_cells cells;
+    int64_t *lattice;
+    size_t side;                    /* of a square, in decimetres */
+    size_t step_x, step_y;          /* and in positions, along each axis */
+    size_t columns, rows;
+    int64_t *heights;
+} basin;
+
+static int failed(const char *what, const char *name)
+{
+    fprintf(stderr, "%s: %s\n", what, name);
+    return FAILED;
+}
+
+static int refused(const char *call, size_t number, size_t place)
+{
+    fprintf(stderr, "%s refused: number %zu, place %zu\n", call, number, place);
+    return REFUSED;
+}
+
+/* ---- the ground */
+
+/* One byte more than the longest lattice file is enough: the reader finds it after the end. */
+static int read_ground(basin *b, const char *name)
+{
+    const size_t most = CURLEW_LATTICE_FILE(MOST_CELLS, MOST_CELLS) + 1, controls = CURLEW_CONTROLS(MOST_CELLS, MOST_CELLS);
+    FILE *file = fopen(name, "rb");
+    uint8_t *bytes = calloc(most, 1);
+    int result = DONE;
+
+    b->lattice = calloc(controls, sizeof *b->lattice);
+    if (file == NULL)
+        result = failed(name, strerror(errno));
+    else if (bytes == NULL || b->lattice == NULL)
+        result = failed(name, "no memory");
+    else
+        b->cells = curlew_read_lattice(bytes, fread(bytes, 1, most, file), b->lattice, controls);
+    if (result == DONE && ferror(file))
+        result = failed(name, "cannot be read");
+    if (result == DONE && b->cells.number != 0)
+        result = refused("curlew_read_lattice", b->cells.number, b->cells.place);
+    if (file != NULL)
+        fclose(file);
+    free(bytes);
+    return result;
+}
+
+/* ---- the squares */
+
+/* The positions of a side along one axis, where a position has this length in metres; 0 if they are no whole number. */
+static size_t positions(size_t side, const char *word)
+{
+    char *end;
+    const double size = strtod(word, &end), exact = (double)side / DECIMETRES / size;
+    const size_t whole = exact >= 1 && exact <= UNIT * MOST_CELLS ? (size_t)(exact + 0.5) : 0;
+    const double off = exact - (double)whole;
+
+    return end != word && *end == '\0' && off <= EXACT * exact && -off <= EXACT * exact ? whole : 0;
+}
+
+static int lay_out(basin *b, int words, char **word)
+{
+    char *end;
+    const unsigned long side = strtoul(word[2], &end, 10);
+
+    if (word[2][0] < '0' || word[2][0] > '9' || *end != '\0' || side < 1 || side > 100)
+        return failed("the side is a whole number of decimetres from 1 to 100", word[2]);
+    b->side = side;
+    b->step_x = positions(side, word[3]);
+    b->step_y = positions(side, word[words - 1]);
+    if (b->step_x == 0 || b->step_y == 0)
+        return failed("not a whole number of positions along both axes", word[2]);
+    b->columns = UNIT * b->cells.m / b->step_x;
+    b->rows = UNIT * b->cells.n / b->step_y;
+    if (b->columns == 0 || b->rows == 0)
+        return failed("the ground is smaller than a square of this side", word[2]);
+    return DONE;
+}
+
+/* A raster has one step for both axes, and the sides may be of different length in positions: so each row is a raster of its own. */
+static int sample(basin *b)
+{
+    const size_t k = CURLEW_CONTROLS(b->cells.m, b->cells.n);
+    size_t row;
+
+    b->heights = calloc(b->columns * b->rows, sizeof *b->heights);
+    if (b->heights == NULL)
+        return failed("no memory", "the heights");
+    for (row = 0; row < b->rows; row++) {
+        const curlew_count sampled = curlew_raster(b->cells.m, b->cells.n, UNIT, b->lattice, k, b->step_x / 2,
+                                                   b->step_y / 2 + row * b->step_y, b->step_x, b->columns, 1,
+                                                   b->heights + row * b->columns, b->columns);
+        if (sampled.number != 0)
+            return refused("curlew_raster", sampled.number, sampled.place);
+    }
+    return DONE;
+}
+
+/* ---- the table */
+
+/* Metres from whole micrometres; the sign apart, since -0.5 m has no whole metre to carry it. */
+static void print_line(int64_t stage, uint64_t litres)
+{
+    const int64_t size = stage < 0 ? -stage : stage;
+    char text[32];
+
+    snprintf(text, sizeof text, "%s%" PRId64 ".%06" PRId64, stage < 0 ? "-" : "", size / MICROMETRES, size % MICROMETRES);
+    printf("%12s %20" PRIu64 "\n", text, litres);
+}
+
+static int print_table(const basin *b)
+{
+    const size_t nodes = b->columns * b->rows;
+    int64_t low = b->heights[0], high = b->heights[0], part;
+    size_t at;
+
+    for (at = 1; at < nodes; at++) {
+        low = b->heights[at] < low ? b->heights[at] : low;
+        high = b->heights[at] > high ? b->heights[at] : high;
+    }
+    printf("%zu by %zu squares of %zu.%zu metres\n%12s %20s\n", b->columns, b->rows, b->side / DECIMETRES, b->side % DECIMETRES,
+           "stage, m", "litres");
+    for (part = 0; part <= STAGES; part++) {
+        const int64_t stage = low + (high - low) * part / STAGES;
+        const curlew_storage stored = curlew_storage_at(b->columns, b->rows, b->heights, nodes, stage, b->side);
+        if (stored.number != 0)
+            return refused("curlew_storage_at", stored.number, stored.place);
+        print_line(stage, stored.litres);
+    }
+    return DONE;
+}
+
+int main(int words, char **word)
+{
+    basin b = { 0 };
+    int result;
+
+    if (words != 4 && words != 5) {
+        fprintf(stderr, "usage: pond LATTICE SIDE SIZE [SIZE_Y]\n");
+        return FAILED;
+    }
+    result = read_ground(&b, word[1]);
+    if (result == DONE)
+        result = lay_out(&b, words, word);
+    if (result == DONE)
+        result = sample(&b);
+    if (result == DONE)
+        result = print_table(&b);
+    free(b.lattice);
+    free(b.heights);
+    return result;
+}
