@@ -270,16 +270,16 @@ static job *raster_job(size_t cells, size_t step)
     return j;
 }
 
-/* The nodes of a raster of the ground, of which about half stand below the stage. */
-static job *storage_job(size_t side)
+/* A raster of the ground, so many nodes across, of which about half stand below the stage. */
+static job *storage_job(size_t across)
 {
-    job *j = raster_job(512, 16 * 512 / (side - 1));
+    job *j = raster_job(512, 16 * 512 / (across - 1));
     size_t *v = j->call.number;
     const int64_t *heights = j->call.slice[VALUES].at;
 
     run_reference(&j->call);
     j->call.function = STORAGE_AT;
-    v[STAGE] = (size_t)heights[side * side / 2];
+    v[STAGE] = (size_t)heights[across * across / 2];
     v[NODE_SIDE] = 100;
     return j;
 }

@@ -7,7 +7,8 @@
  * LATTICE is a lattice file that a fit left (target/host writes one). SIDE is the side of a node's square in decimetres, 1 to 100;
  * SIZE and SIZE_Y are the metres of a position along x and along y, as tools/points was given them (SIZE for both where SIZE_Y is
  * not given). A side must be a whole number of positions along both axes. The squares lie edge to edge from (0, 0) on, and a node
- * in the middle of each; what is left at the far edges, less than a square wide, is not counted.
+ * in the middle of each, or half a position before it where a side has an odd number of them; what is left at the far edges, less
+ * than a square wide, is not counted.
  *
  * Every node below a stage counts, whether or not the water could reach it or would run off: it is the basin's own lattice that
  * this is for.
@@ -61,22 +62,25 @@ static int read_ground(basin *b, const char *name)
 {
     const size_t most = CURLEW_LATTICE_FILE(MOST_CELLS, MOST_CELLS) + 1, controls = CURLEW_CONTROLS(MOST_CELLS, MOST_CELLS);
     FILE *file = fopen(name, "rb");
-    uint8_t *bytes = calloc(most, 1);
+    uint8_t *bytes;
+    size_t length = 0;
     int result = DONE;
 
-    b->lattice = calloc(controls, sizeof *b->lattice);
     if (file == NULL)
-        result = failed(name, strerror(errno));
-    else if (bytes == NULL || b->lattice == NULL)
+        return failed(name, strerror(errno));
+    bytes = calloc(most, 1);
+    b->lattice = calloc(controls, sizeof *b->lattice);
+    if (bytes == NULL || b->lattice == NULL)
         result = failed(name, "no memory");
     else
-        b->cells = curlew_read_lattice(bytes, fread(bytes, 1, most, file), b->lattice, controls);
+        length = fread(bytes, 1, most, file);
     if (result == DONE && ferror(file))
         result = failed(name, "cannot be read");
+    fclose(file);
+    if (result == DONE)
+        b->cells = curlew_read_lattice(bytes, length, b->lattice, controls);
     if (result == DONE && b->cells.number != 0)
         result = refused("curlew_read_lattice", b->cells.number, b->cells.place);
-    if (file != NULL)
-        fclose(file);
     free(bytes);
     return result;
 }
@@ -105,7 +109,7 @@ static int lay_out(basin *b, int words, char **word)
     b->step_x = positions(side, word[3]);
     b->step_y = positions(side, word[words - 1]);
     if (b->step_x == 0 || b->step_y == 0)
-        return failed("not a whole number of positions along both axes", word[2]);
+        return failed("the side is no whole number of positions of this size", word[b->step_x == 0 ? 3 : words - 1]);
     b->columns = UNIT * b->cells.m / b->step_x;
     b->rows = UNIT * b->cells.n / b->step_y;
     if (b->columns == 0 || b->rows == 0)
@@ -134,6 +138,23 @@ static int sample(basin *b)
 
 /* ---- the table */
 
+typedef struct {
+    int64_t low, high;
+} span;
+
+/* The lowest node and the highest. */
+static span span_of(const int64_t *heights, size_t nodes)
+{
+    span s = { heights[0], heights[0] };
+    size_t at;
+
+    for (at = 1; at < nodes; at++) {
+        s.low = heights[at] < s.low ? heights[at] : s.low;
+        s.high = heights[at] > s.high ? heights[at] : s.high;
+    }
+    return s;
+}
+
 /* Metres from whole micrometres; the sign apart, since -0.5 m has no whole metre to carry it. */
 static void print_line(int64_t stage, uint64_t litres)
 {
@@ -147,22 +168,20 @@ static void print_line(int64_t stage, uint64_t litres)
 static int print_table(const basin *b)
 {
     const size_t nodes = b->columns * b->rows;
-    int64_t low = b->heights[0], high = b->heights[0], part;
-    size_t at;
+    const span s = span_of(b->heights, nodes);
+    int64_t part;
 
-    for (at = 1; at < nodes; at++) {
-        low = b->heights[at] < low ? b->heights[at] : low;
-        high = b->heights[at] > high ? b->heights[at] : high;
-    }
     printf("%zu by %zu squares of %zu.%zu metres\n%12s %20s\n", b->columns, b->rows, b->side / DECIMETRES, b->side % DECIMETRES,
            "stage, m", "litres");
     for (part = 0; part <= STAGES; part++) {
-        const int64_t stage = low + (high - low) * part / STAGES;
+        const int64_t stage = s.low + (s.high - s.low) * part / STAGES;
         const curlew_storage stored = curlew_storage_at(b->columns, b->rows, b->heights, nodes, stage, b->side);
         if (stored.number != 0)
             return refused("curlew_storage_at", stored.number, stored.place);
         print_line(stage, stored.litres);
     }
+    if (fflush(stdout) != 0 || ferror(stdout))
+        return failed("cannot write standard output", strerror(errno));
     return DONE;
 }
 

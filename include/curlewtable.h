@@ -34,10 +34,11 @@
  *   15  a difference from the base of the fit out of range                                      the point's index
  *   16  a node side outside 1..100 decimetres                                                   place 0
  * A refusal leaves every slice as it was, but for 7, 13 and 14: the scratch prefixes are then zero, as after an acceptance, and
- * lattice and residuals are as they were. The order of the checks is 1, 2, 3, 8, 4, then 5 and 6; points in list order, 5 before 6
- * in a point, elsewhere the whole lattice (6) before positions (5); of a storage the side (16) before 6; of a fit whose points are all in order the differences (15),
- * and then its levels one by one, in each all quotients (7), then all residuals (13), then all sums (14), and after the last
- * level the sums with the base (14); readers record by record, 9, 10, 11, then 12, then 4.
+ * lattice and residuals are as they were. The order of the checks is 1, 2, 3, 8, 4, then 5 and 6; points in list order, 5 before
+ * 6 in a point, elsewhere the whole lattice (6) before positions (5); of a storage the side (16) before 6; of a fit whose points
+ * are all in order the differences (15), and then its levels one by one, in each all quotients (7), then all residuals (13),
+ * then all sums (14), and after the last level the sums with the base (14); readers record by record, 9, 10, 11, then 12, then
+ * 4.
  */
 #ifndef CURLEWTABLE_H
 #define CURLEWTABLE_H

@@ -3,9 +3,9 @@
  *
  *   compare [--vectors DIR] [--small] [--case N] [seconds [seed]]
  *
- * First come the examples of documents 01 and 02, lattices with each value out of range in turn, the storage of the largest
- * raster, with --vectors every line of the outside vectors of that folder, and every damage of a small file; then random cases for
- * about so many seconds (30).
+ * First come the examples of documents 01 and 02, lattices and rasters with each value out of range in turn, the storage of the
+ * largest raster, with --vectors every line of the outside vectors of that folder, and every damage of a small file; then random
+ * cases for about so many seconds (30).
  * --small leaves out the larger cases, for slow tools. Prints how many calls were compared, by function and answer. At the
  * first difference it prints the call and its case number N, and exits with status 1; "compare --case N 0 seed" runs that case
  * alone.

@@ -441,8 +441,11 @@ static void storage_refusals(void)
     expect(&d, 6, 0, 0, 0);
 }
 
-/* Each height out of range in turn, in rows about as long as a block of the scan: its place is one more than its index. */
-static void storage_offenders(size_t columns)
+/*
+ * Each height out of range in turn, by itself or with the last, in rows about as long as a block of the scan: its place is one more
+ * than its index.
+ */
+static void storage_offenders(size_t columns, int with_last)
 {
     static const int64_t zeros[130];
     draft d = row_of_heights(zeros, columns, 1, 100);
@@ -450,10 +453,14 @@ static void storage_offenders(size_t columns)
     size_t at;
 
     expect(&d, 0, 0, columns / 10, 0);
-    for (at = 0; at < columns; at++) {
+    if (with_last)
+        heights[columns - 1] = INT64_MAX;
+    for (at = columns; at-- > 0;) {
+        const int64_t kept = heights[at];
+
         heights[at] = at % 2 == 0 ? LIMIT + 1 : INT64_MIN;
         expect(&d, 6, at + 1, 0, 0);
-        heights[at] = 0;
+        heights[at] = kept;
     }
 }
 
@@ -470,8 +477,10 @@ static void storage_examples(void)
     storage_example("the deepest two nodes", -LIMIT, -LIMIT, LIMIT, 100, UINT64_C(1600000000));
     storage_refusals();
     begin("every height out of range in turn");
-    for (at = 0; at < COUNT(columns); at++)
-        storage_offenders(columns[at]);
+    for (at = 0; at < COUNT(columns); at++) {
+        storage_offenders(columns[at], 0);
+        storage_offenders(columns[at], 1);
+    }
 }
 
 /* ---- files: the lattice file of 1 by 1 zero cells, whole and with its rows tampered with ---- */

@@ -1,6 +1,6 @@
 /*
  * The ten functions of curlewtable.h, answered by the second implementation (tests/reference). With this in place of the
- * archive the host can be built where the Rattle kit is not, and what it prints over the one can be compared with the other.
+ * archive the examples can be built where the Rattle kit is not, and what they print over the one can be compared with the other.
  */
 #include "curlewtable.h"
 #include "../reference/reference.h"

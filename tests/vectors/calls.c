@@ -122,16 +122,28 @@ static int raster_line(const char *text, runner *run)
     return agrees;
 }
 
-/* columns rows stage side length : heights : answer; a list shorter than length is repeated from its start */
+/* So many values; a shorter list is repeated from its start. */
+static int64_t *repeated(list given, size_t length, const char *text)
+{
+    int64_t *result = room(length, sizeof *result);
+    size_t at;
+
+    if (length > 0 && given.count == 0)
+        bad_line(text);
+    for (at = 0; at < length; at++)
+        result[at] = given.values[at % given.count];
+    return result;
+}
+
+/* columns rows stage side length : heights : answer */
 static int storage_line(const char *text, runner *run)
 {
     static const unsigned place[] = { COLUMNS, ROWS, STAGE, NODE_SIDE };
     numbers line = read_numbers(text);
     const int64_t *head = line.list[0].values;
-    const list given = line.list[1];
     call c;
     int64_t *heights;
-    size_t length, at;
+    size_t at;
     int agrees;
 
     check_line(&line, text, 3, COUNT(place) + 1);
@@ -139,11 +151,8 @@ static int storage_line(const char *text, runner *run)
     c.function = STORAGE_AT;
     for (at = 0; at < COUNT(place); at++)
         c.number[place[at]] = (size_t)head[at];
-    length = (size_t)head[COUNT(place)];
-    heights = room(length, sizeof *heights);
-    for (at = 0; at < length; at++)
-        heights[at] = given.values[at % given.count];
-    lend(&c, VALUES, heights, length);
+    heights = repeated(line.list[1], (size_t)head[COUNT(place)], text);
+    lend(&c, VALUES, heights, (size_t)head[COUNT(place)]);
     agrees = same_answer(run(&c), line.list[2], 1, 0);
     free(heights);
     free_numbers(&line);

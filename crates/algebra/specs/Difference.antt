@@ -120,6 +120,7 @@ pub ruleset whole = (pos-⊝, negsuc-⊝, neg-⊝, neg-pos-⊝, subℕ-⊝, add-
 
 -- ---- every whole number is a difference
 
+-- z where it is positive, else 0; and its size where it is negative, else 0
 unfoldable pub posPart : ℤ → ℕ
 posPart (pos n) = n
 posPart (negsuc n) = 0

@@ -1,13 +1,12 @@
 // The C boundary: every call of documents 01 and 02 on numbers and slices, with the contract of the function below it. The header is include/curlewtable.h.
 ghost use mathlib.Core.Path.{_≡_};
 ghost use Rattle.rules.specs.Fit.{shape, survey};
-ghost use Rattle.rules.specs.Answers.{answer, _then_};
 ghost use Rattle.rules.specs.Calls as calls;
 ghost use Rattle.rules.specs.Storage as pond;
 ghost use Rattle.rules.specs.Demand3.{CloseEverywhere};
 ghost use Rattle.rules.specs.LatticeFile as latticeFile;
 ghost use Rattle.rules.specs.PointFile as pointFile;
-ghost use Rattle.storage.specs.Sampled.{Sampled};
+ghost use Rattle.storage.specs.Sampled.{Sampled, sampledAnswer};
 ghost use Rattle.fields.specs.Fields.{handed, inFields, cellsFields, heightFields, slopeFields, countFields, headerFields, storageFields};
 use fields::CellsAnswer;
 use fields::CountAnswer;
@@ -103,7 +102,7 @@ pub extern "C" fn curlew_storage_at(
     side: usize,
 ) -> StorageAnswer
     ensures { λ r. ⌜ r ≡ storageFields (pond.storageAnswer columns rows (now (heights .entry)) stage side) ⌝ }
-    ensures { λ r. ⌜ (Sampled columns rows (now (heights .entry)) → r ≡ storageFields (answer (pond.sideCheck side then pond.stageCheck stage) (pond.storage columns rows (now (heights .entry)) stage side))) ⌝ }
+    ensures { λ r. ⌜ (Sampled columns rows (now (heights .entry)) → r ≡ storageFields (sampledAnswer columns rows (now (heights .entry)) stage side)) ⌝ }
 {
     fields::storage(storage::storage(columns, rows, heights, stage, side))
 }

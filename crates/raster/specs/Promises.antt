@@ -1,4 +1,5 @@
--- What a raster promises beyond its equation with the rules. Where it is accepted, a height alone would be accepted at each node, and each is in range.
+-- What a raster promises beyond its equation with the rules. Where it is accepted, a height alone would be accepted at each node, and each is in range; there
+-- are as many as were asked for, in at most 8,193 columns and rows, and the slice holds them.
 -- Accepted or refused, at a given step it is the raster of the earlier default, when step 0 stood for 16.
 use mathlib.Core.Path.{_≡_, ap, _∙_}
 use mathlib.Core.Bool.{_&&_}

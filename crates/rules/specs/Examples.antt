@@ -113,6 +113,7 @@ table =
     ∷ (refusalOf (storageCheck 0 8_194 [] high 0) is pos 8_000)
     ∷ (refusalOf (storageCheck 1 1 [] high 0) is pos 4_000)
     ∷ (refusalOf (storageCheck 1 1 (high ∷ []) high 101) is pos 16_000)
+    ∷ (refusalOf (storageCheck 1 1 (high ∷ []) high 0) is pos 16_000)
     ∷ (refusalOf (storageCheck 1 1 (high ∷ []) high 100) is pos 6_000)
     ∷ (refusalOf (storageCheck 1 2 (pos 0 ∷ high ∷ []) (pos 0) 1) is pos 6_002)
     ∷ (refusalOf (storageCheck 1 1 (pos 0 ∷ high ∷ []) (pos 0) 1) is pos 0)

@@ -1,5 +1,5 @@
--- What a storage promises beyond its equation with the rules: a higher stage never stores less, there are so many litres at most, and the heights of an
--- accepted raster are never refused.
+-- What a storage promises beyond its equation with the rules: a higher stage never stores less, there are at most 53,700,199,200,000,000 litres, and the heights
+-- of an accepted raster are never refused.
 use mathlib.Core.Path.{_≡_, sym, ap, _∙_}
 use mathlib.Core.Logic.{_⊎_, ⊎-elim, inl, inr}
 use mathlib.Core.List.{List}

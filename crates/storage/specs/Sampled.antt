@@ -1,20 +1,21 @@
 -- A raster as it is promised: what an accepted call of `raster` leaves, in the words of its contract; and what of it storage can then refuse.
-use mathlib.Core.Path.{_≡_, ap, _∙_}
+use mathlib.Core.Path.{_≡_, refl, ap, _∙_}
 use mathlib.Core.Option.{none}
 use mathlib.Core.List.{List}
 use Prim.Native.Nat.{ℕ, _+_, _*_}
 use lib.Dec.{leb, le→leb}
 use lib.IntN.{ℤ}
 use lib.ListN.{length}
-use Rattle.rules.specs.Answers.{short, range, require, _then_, accepted, answer, outcome}
-use Rattle.rules.specs.Calls.{Nodes, countsCheck, nodes, rasterCall}
+use Rattle.rules.specs.Answers.{short, range, require, _then_, Answer, accepted, answer, outcome, call}
+use Rattle.rules.specs.Calls.{Nodes, countsCheck, nodes, rasterCheck, rasterCall}
 use Rattle.rules.specs.Storage.{storage, sideCheck, pondCheck, stageCheck, heightsCheck, storageCheck, storageAnswer}
 use Rattle.rules.specs.Laws.Checks.{require-met, then-none, then-pass, size-rangeCheck}
 use Rattle.raster.specs.Promises.{many, counted, entries-held, entry-in-range}
 use Rattle.answers.specs.CountTold.{told}
 use Rattle.answers.specs.declared.CountTold.{CountTold}
+use Rattle.answers.specs.declared.CountTold.the-variants.{Count}
 
--- these heights are the slice that was lent to an accepted raster of so many columns and rows
+-- these heights are what an accepted raster of so many columns and rows has left in the slice that it was lent
 pub record Sampled (columns rows : ℕ) (heights : List ℤ) : Type 0 where
   pub m : ℕ
   pub n : ℕ
@@ -28,6 +29,29 @@ pub record Sampled (columns rows : ℕ) (heights : List ℤ) : Type 0 where
   pub rules : outcome (told answered) heights ≡ rasterCall m n unit lattice (nodes x0 y0 step columns rows) lent
   pub count : ℕ
   pub is : told answered ≡ accepted count
+
+-- every raster that the rules accept leaves some
+pub sampled : (m n U : ℕ) (l : List ℤ) (x0 y0 step columns rows : ℕ) (d : List ℤ) → rasterCheck m n U l (nodes x0 y0 step columns rows) d ≡ none
+    → Sampled columns rows (rasterCall m n U l (nodes x0 y0 step columns rows) d .slices)
+unfolding rasterCall call
+sampled m n U l x0 y0 step columns rows d e = record {
+  m = m;
+  n = n;
+  unit = U;
+  lattice = l;
+  x0 = x0;
+  y0 = y0;
+  step = step;
+  lent = d;
+  answered = Count (columns * rows);
+  rules = rw e refl;
+  count = columns * rows;
+  is = refl;
+}
+
+-- the answer of the two checks that are left of a storage, the side's and the stage's
+abbrev pub sampledAnswer : ℕ → ℕ → List ℤ → ℤ → ℕ → Answer ℕ
+sampledAnswer columns rows heights stage side = answer (sideCheck side then stageCheck stage) (storage columns rows heights stage side)
 
 module _ {columns rows : ℕ} {heights : List ℤ} (s : Sampled columns rows heights) where
   abbrev g : Nodes
@@ -56,6 +80,6 @@ module _ {columns rows : ℕ} {heights : List ℤ} (s : Sampled columns rows hei
       ∙ ap (λ c. sideCheck side then c) (then-pass (stageCheck stage))
 
   -- so that only the side and the stage can be
-  pub sampled-answer : (stage : ℤ) (side : ℕ) → storageAnswer columns rows heights stage side ≡ answer (sideCheck side then stageCheck stage) (storage columns rows heights stage side)
+  pub sampled-answer : (stage : ℤ) (side : ℕ) → storageAnswer columns rows heights stage side ≡ sampledAnswer columns rows heights stage side
   unfolding storageAnswer
   sampled-answer stage side = ap (λ c. answer c (storage columns rows heights stage side)) (sampled-check stage side)

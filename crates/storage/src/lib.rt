@@ -3,13 +3,13 @@ ghost use mathlib.Core.Path.{_≡_};
 ghost use Prim.Native.Nat.{_*_, _≤_};
 ghost use lib.IntN.{natAbs};
 ghost use lib.ListN.{length};
-ghost use Rattle.rules.specs.Answers.{answer, _then_};
+ghost use Rattle.rules.specs.Answers.{answer};
 ghost use Rattle.rules.specs.Grid.{limit};
 ghost use Rattle.rules.specs.Storage as rule;
 ghost use Rattle.rules.specs.Laws.Checks.{AllInRange};
 ghost use Rattle.answers.specs.Cause.{check};
-ghost use Rattle.storage.specs.Told.{gauged, told};
-ghost use Rattle.storage.specs.Sampled.{Sampled};
+ghost use Rattle.storage.specs.Told.{told, sumTold};
+ghost use Rattle.storage.specs.Sampled.{Sampled, sampledAnswer};
 use answers::Refusal;
 use answers::Verdict;
 use range::Found;
@@ -21,14 +21,14 @@ pub enum Stored {
 }
 
 // What is told of its sum of depths.
-enum Gauged {
+enum Summed {
     Sum(u64),
     Refused(Refusal),
 }
 
 // "Depth at a node is stage less height where positive, else 0". No sign is tested, so that a sum of depths is fast: 0 less the top bit of height less stage
-// is a mask that keeps all its bits where it is negative, and else none. The other way round, and with signed numbers, the compiler makes a comparison
-// of 64 bits of it, which plain x86-64 has not.
+// is a mask that keeps all its bits where it is negative, and else none. The other way round, and with signed numbers, the compiler makes the greater
+// of it and 0, for which plain x86-64 has no instruction two at a time.
 fn depth(stage: i64, height: i64) -> u64
     requires { ⌜ (natAbs stage ≤ limit) × (natAbs height ≤ limit) ⌝ }
     ensures { λ r. ⌜ r ≡ rule.depth stage height ⌝ }
@@ -63,9 +63,9 @@ pub fn litres(sum: u64, side: usize) -> u64
 
 // 6 over the heights, and the sum of depths where they are all in range: 64 at a time are looked over and then added up, so that the raster is fetched
 // once.
-fn gauge(heights: &[i64], count: usize, stage: i64) -> Gauged
+fn checked_sum(heights: &[i64], count: usize, stage: i64) -> Summed
     requires { ⌜ (count ≤ length (now heights)) × (count ≤ 8_193 * 8_193) × (natAbs stage ≤ limit) ⌝ }
-    ensures { λ r. ⌜ gauged r ≡ answer (rule.heightsCheck count (now (heights .entry))) (rule.depths count (now (heights .entry)) stage) ⌝ }
+    ensures { λ r. ⌜ sumTold r ≡ answer (rule.heightsCheck count (now (heights .entry))) (rule.depths count (now (heights .entry)) stage) ⌝ }
 {
     let mut sum = 0u64;
     let mut i = 0;
@@ -73,16 +73,16 @@ fn gauge(heights: &[i64], count: usize, stage: i64) -> Gauged
         let w = machine::lesser(count - i, 64);
         let block = &heights[i..i + w];
         if let Found::At(k) = range::first_out(block, w) {
-            return Gauged::Refused(Refusal::Range(i + k + 1));
+            return Summed::Refused(Refusal::Range(i + k + 1));
         }
         sum += depth_sum(block, stage);
         i += w;
     }
-    Gauged::Sum(sum)
+    Summed::Sum(sum)
 }
 
 // 8, 4 and 16: what does not depend on the stage or on any height
-fn pond(columns: usize, rows: usize, heights: &[i64], side: usize) -> Verdict
+fn pond_checks(columns: usize, rows: usize, heights: &[i64], side: usize) -> Verdict
     ensures { λ r. ⌜ check r ≡ rule.pondCheck columns rows (now (heights .entry)) side ⌝ }
 {
     if let Verdict::Refused(r) = checks::counts(columns, rows) {
@@ -100,16 +100,16 @@ fn pond(columns: usize, rows: usize, heights: &[i64], side: usize) -> Verdict
 // Of the heights that an accepted raster left none is refused: only the side and the stage can be.
 pub fn storage(columns: usize, rows: usize, heights: &[i64], stage: i64, side: usize) -> Stored
     ensures { λ r. ⌜ told r ≡ rule.storageAnswer columns rows (now (heights .entry)) stage side ⌝ }
-    ensures { λ r. ⌜ (Sampled columns rows (now (heights .entry)) → told r ≡ answer (rule.sideCheck side then rule.stageCheck stage) (rule.storage columns rows (now (heights .entry)) stage side)) ⌝ }
+    ensures { λ r. ⌜ (Sampled columns rows (now (heights .entry)) → told r ≡ sampledAnswer columns rows (now (heights .entry)) stage side) ⌝ }
 {
-    if let Verdict::Refused(r) = pond(columns, rows, heights, side) {
+    if let Verdict::Refused(r) = pond_checks(columns, rows, heights, side) {
         return Stored::Refused(r);
     }
     if !range::in_range(stage) {
         return Stored::Refused(Refusal::Range(0));
     }
-    match gauge(heights, columns * rows, stage) {
-        Gauged::Sum(sum) => Stored::Litres(litres(sum, side)),
-        Gauged::Refused(r) => Stored::Refused(r),
+    match checked_sum(heights, columns * rows, stage) {
+        Summed::Sum(sum) => Stored::Litres(litres(sum, side)),
+        Summed::Refused(r) => Stored::Refused(r),
     }
 }

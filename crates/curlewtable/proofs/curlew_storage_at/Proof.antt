@@ -2,8 +2,8 @@
 use mathlib.Core.Path.{ap, _∙_}
 use borrow.Author.Needs.{needs}
 use Rattle.machine.specs.Tests.{plain}
-use Rattle.rules.specs.Answers.{answer, _then_}
-use Rattle.rules.specs.Storage.{storage, sideCheck, stageCheck, storageAnswer}
+use Rattle.rules.specs.Storage.{storageAnswer}
+use Rattle.storage.specs.Sampled.{sampledAnswer}
 use Rattle.fields.specs.Fields.{storageFields}
 use Rattle.curlewtable.proofs.curlew_storage_at.Statement.{statement}
 use Rattle.curlewtable.proofs.curlew_storage_at.Tie as tie
@@ -24,7 +24,7 @@ returns c =
           c .storage2 .ensures
           ∙ ap storageFields
           (c .before .storage .ensures .1 sampled
-          ∙ ap (λ z. answer (sideCheck (a .side) then stageCheck z) (storage (a .columns) (a .rows) (a .heights .now) z (a .side))) stage-is),
+          ∙ ap (λ z. sampledAnswer (a .columns) (a .rows) (a .heights .now) z (a .side)) stage-is),
     )
 
 pub curlew-storage-at-spec : {M : Type 1} → statement M

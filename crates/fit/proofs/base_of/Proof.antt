@@ -1,6 +1,6 @@
 -- `fit::base_of` meets its contract: the check of the points, and then that of the heights with the sum that the points told.
 use mathlib.Core.Path.{_≡_, sym, ap, _∙_}
-use mathlib.Core.Option.{none, some}
+use mathlib.Core.Option.{none}
 use Prim.Native.Nat.{_*_}
 use native.Mathlib.Omega.{arith}
 use borrow.Author.Needs.{needs}
@@ -8,19 +8,15 @@ use lib.IntN.{ℤ}
 use lib.ListN.{length}
 use Rattle.machine.specs.Held.{Held, read}
 use Rattle.rules.specs.Grid.{limit}
-use Rattle.rules.specs.Answers.{Refusal, Check, _then_, Answer, refused, answer}
+use Rattle.rules.specs.Answers.{Check, _then_, Answer, answer}
 use Rattle.rules.specs.Fit.{Survey, survey, total}
 use Rattle.rules.specs.Calls.{pointsCheck}
 use Rattle.rules.specs.Laws.Base.{total-size}
-use Rattle.rules.specs.Laws.Checks.{AllInRange, then-none}
+use Rattle.rules.specs.Laws.Checks.{AllInRange, then-none, then-some, some-answer}
 use Rattle.point_checks.specs.Told as points
 use Rattle.fit.proofs.Answering.{heights-ranged}
 use Rattle.fit.proofs.base_of.Statement.{statement}
 use Rattle.fit.proofs.base_of.Tie as tie
-
-refused-first : (c d : Check) (b : ℤ) {r : Refusal} → c ≡ some r → refused r ≡ answer (c then d) b
-unfolding answer _then_
-refused-first c d b e = rw e
 
 told-next : (c d : Check) (b : ℤ) {t : Answer ℤ} → c ≡ none → t ≡ answer d b → t ≡ answer (c then d) b
 told-next c d b e is = is ∙ ap (λ k. answer k b) (sym (then-none c d e))
@@ -76,7 +72,7 @@ returns : tie.Need-returns
 returns c = told-next _ _ _ (known (c .before .before) .0) (c .settle .ensures)
 
 returns-2 : tie.Need-returns-2
-returns-2 c = let q = c .before .before .before in refused-first _ _ _ (points.refused (asked q) (sum q) (q .points .ensures) (c .before .r .given .1))
+returns-2 c = let q = c .before .before .before in some-answer _ (then-some _ _ (points.refused (asked q) (sum q) (q .points .ensures) (c .before .r .given .1)))
 
 pub base-of-spec : {M : Type 1} → statement M
 base-of-spec = tie.close (tie.spec points-requires enum-known-z settle-requires enum-known-r returns returns-2)

@@ -1,9 +1,8 @@
 -- `nodes::sizes` meets its contract: the step is tested first, and columns and rows by `counts`.
-use mathlib.Core.Path.{_∙_}
 use borrow.Author.Needs.{needs}
 use borrow.Author.Tests.{le-leb, lt-leb}
 use Rattle.rules.specs.Answers.{require, _then_}
-use Rattle.rules.specs.Calls.{countsCheck, sizeCheck}
+use Rattle.rules.specs.Calls.{sizeCheck}
 use Rattle.nodes.proofs.sizes.Statement.{statement}
 use Rattle.nodes.proofs.sizes.Tie as tie
 

@@ -34,7 +34,7 @@ add-result c =
     record {
       fits = lt-of-le-of-lt
           (add-le-add (whole-fits (c .args .sum) (c .pre .0) (omega (arith, square-fits c, c .pre .1)))
-          (le-trans (div-le-self _ 100_000) (rest-fits (c .args .sum) (omega (arith, square-fits c, c .pre .1)))))
+          (le-trans (div-le-self _ _) (rest-fits (c .args .sum) (omega (arith, square-fits c, c .pre .1)))))
           (lit< tt);
     }
 

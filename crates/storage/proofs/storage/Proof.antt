@@ -1,24 +1,22 @@
 -- `storage::storage` meets its contract: the checks go in their order, and of a raster as it is promised only two of them can refuse.
-use mathlib.Core.Path.{_≡_, sym, ap, ap₂, _∙_}
-use mathlib.Core.Bool.{Bool, true, false}
+use mathlib.Core.Path.{_≡_, sym, ap, _∙_}
+use mathlib.Core.Bool.{false}
 use mathlib.Core.Option.{none, some}
 use mathlib.Core.List.{List}
 use Prim.Native.Nat.{ℕ, _*_, _≤_}
 use native.Mathlib.Omega.{arith}
 use borrow.Author.Needs.{needs}
 use borrow.Author.Tests.{not-true, not-false}
-use lib.IntN.{ℤ, natAbs}
-use mir.Syntax.{w64}
-use mir.Val.{toZ, ofZ}
+use lib.IntN.{ℤ}
 use Rattle.machine.specs.Tests.{plain}
-use Rattle.rules.specs.Grid.{limit, inRange}
-use Rattle.rules.specs.Answers.{Refusal, range, Check, require, _then_, Answer, accepted, refused, answer}
-use Rattle.rules.specs.Storage.{depths, litres, storage, sideCheck, pondCheck, stageCheck, heightsCheck, storageCheck, storageAnswer}
+use Rattle.rules.specs.Grid.{inRange}
+use Rattle.rules.specs.Answers.{Refusal, range, require, Answer, accepted, refused, answer}
+use Rattle.rules.specs.Storage.{depths, litres, storage, pondCheck, stageCheck, heightsCheck, storageCheck, storageAnswer}
 use Rattle.rules.specs.Laws.Checks.{then-none, then-some, answer-none, answer-value, answer-refused, none-answer, some-answer}
 use Rattle.rules.specs.Laws.Storage.{sum-most, pond-passed, stage-passed, heights-passed}
 use Rattle.answers.specs.Cause.{found}
-use Rattle.storage.specs.Sampled.{Sampled, sampled-answer}
-use Rattle.storage.specs.Told.{gauged}
+use Rattle.storage.specs.Sampled.{Sampled, sampledAnswer, sampled-answer}
+use Rattle.storage.specs.Told.{sumTold}
 use Rattle.storage.proofs.storage.Statement.{statement}
 use Rattle.storage.proofs.storage.Tie as tie
 
@@ -32,7 +30,7 @@ module _ (columns rows : ℕ) (heights : List ℤ) (stage : ℤ) (s : ℕ) where
   abbrev Answers : Answer ℕ → Type 0
   Answers a =
       (a ≡ storageAnswer columns rows heights stage s)
-      × (Sampled columns rows heights → a ≡ answer (sideCheck s then stageCheck stage) (storage columns rows heights stage s))
+      × (Sampled columns rows heights → a ≡ sampledAnswer columns rows heights stage s)
 
   of-both : {a : Answer ℕ} → a ≡ storageAnswer columns rows heights stage s → Answers a
   of-both e = (e, λ sampled. e ∙ sampled-answer sampled stage s)
@@ -80,7 +78,7 @@ module _ (c : tie.After-enum-told) where
   start = c .before .before .before
 
   ponded : pondCheck (start .args .columns) (start .args .rows) (start .args .heights .now) (start .args .side) ≡ none
-  ponded = found (c .before .before .pond .ensures) (c .enum-told .given .1)
+  ponded = found (c .before .before .pond-checks .ensures) (c .enum-told .given .1)
 
 -- `in_range` was handed the stage's bits, read back
 tested : (c : tie.After-in-range) → c .in-range .result ≡ inRange (start (c .before) .args .stage)
@@ -90,7 +88,7 @@ staged : (c : tie.Else1) → stageCheck (start (c .before .before) .args .stage)
 unfolding stageCheck require
 staged c = ap (λ b. require b (range 0)) (sym (tested (c .before)) ∙ not-false _ (c .if1 .left))
 
-module _ (c : tie.After-gauge) where
+module _ (c : tie.After-checked-sum) where
   abbrev first : tie.Start
   first = start (c .before .before .before)
 
@@ -100,18 +98,18 @@ module _ (c : tie.After-gauge) where
   staged-at : stageCheck (first .args .stage) ≡ none
   staged-at = staged (c .before)
 
-  summed : let a = first .args in let n = a .columns * a .rows in gauged (c .gauge .result) ≡ answer (heightsCheck n (a .heights .now)) (depths n (a .heights .now) (a .stage))
+  summed : let a = first .args in let n = a .columns * a .rows in sumTold (c .checked-sum .result) ≡ answer (heightsCheck n (a .heights .now)) (depths n (a .heights .now) (a .stage))
   summed =
       let a = first .args in
       let n = a .columns * a .rows in
-      c .gauge .ensures ∙ ap (λ z. answer (heightsCheck n (a .heights .now)) (depths n (a .heights .now) z)) (plain (a .stage) (first .fits .stage .sfits))
+      c .checked-sum .ensures ∙ ap (λ z. answer (heightsCheck n (a .heights .now)) (depths n (a .heights .now) z)) (plain (a .stage) (first .fits .stage .sfits))
 
 -- ---- what it answers
 
 returns : tie.Need-returns
 returns c =
     let a = c .before .before .before .before .args in
-    by-pond (a .columns) (a .rows) (a .heights .now) (a .stage) (a .side) (found (c .before .before .before .pond .ensures) (c .before .r .given .1))
+    by-pond (a .columns) (a .rows) (a .heights .now) (a .stage) (a .side) (found (c .before .before .before .pond-checks .ensures) (c .before .r .given .1))
 
 returns-2 : tie.Need-returns-2
 returns-2 c =
@@ -124,18 +122,18 @@ returns-3 c =
     let k = c .before in
     let g = k .before .before .before in
     let a = first g .args in
-    by-sum (a .columns) (a .rows) (a .heights .now) (a .stage) (a .side) (ponded-at g) (staged-at g) (summed g) (ap gauged (k .before .sum .given .1)) (c .litres .ensures)
+    by-sum (a .columns) (a .rows) (a .heights .now) (a .stage) (a .side) (ponded-at g) (staged-at g) (summed g) (ap sumTold (k .before .sum .given .1)) (c .litres .ensures)
 
 returns-4 : tie.Need-returns-4
 returns-4 c =
     let g = c .before .before .before in
     let a = first g .args in
-    by-heights (a .columns) (a .rows) (a .heights .now) (a .stage) (a .side) (ponded-at g) (staged-at g) (summed g) (ap gauged (c .before .r2 .given .1))
+    by-heights (a .columns) (a .rows) (a .heights .now) (a .stage) (a .side) (ponded-at g) (staged-at g) (summed g) (ap sumTold (c .before .r2 .given .1))
 
 -- ---- what its steps ask
 
-pond-requires : tie.Need-pond-requires
-pond-requires c κs = search needs
+pond-checks-requires : tie.Need-pond-checks-requires
+pond-checks-requires c κs = search needs
 
 enum-known-r : tie.Need-enum-known-r
 enum-known-r c = search needs
@@ -146,14 +144,14 @@ enum-told c = search needs
 in-range-requires : tie.Need-in-range-requires
 in-range-requires c κs = search needs
 
-mul-gauge : tie.Need-mul-gauge
-mul-gauge c =
+mul-checked-sum : tie.Need-mul-checked-sum
+mul-checked-sum c =
     let t = c .before .before in
     let a = start t .args in
     omega (arith, pond-passed (a .columns) (a .rows) (a .heights .now) (a .side) (ponded t) .0)
 
-gauge-requires : tie.Need-gauge-requires
-gauge-requires c κs =
+checked-sum-requires : tie.Need-checked-sum-requires
+checked-sum-requires c κs =
     let t = c .before .before in
     let s = start t in
     let a = s .args in
@@ -167,7 +165,7 @@ litres-requires : tie.Need-litres-requires
 litres-requires c κs =
     let g = c .before .before .before in
     let a = first g .args in (
-      sum-fits (a .columns) (a .rows) (a .heights .now) (a .stage) (a .side) (ponded-at g) (staged-at g) (summed g) (ap gauged (c .before .sum .given .1)),
+      sum-fits (a .columns) (a .rows) (a .heights .now) (a .stage) (a .side) (ponded-at g) (staged-at g) (summed g) (ap sumTold (c .before .sum .given .1)),
       pond-passed (a .columns) (a .rows) (a .heights .now) (a .side) (ponded-at g) .2,
     )
 
@@ -178,14 +176,14 @@ pub storage-spec : {M : Type 1} → statement M
 storage-spec =
     tie.close
     (tie.spec
-    pond-requires
+    pond-checks-requires
     enum-known-r
     returns
     enum-told
     in-range-requires
     returns-2
-    mul-gauge
-    gauge-requires
+    mul-checked-sum
+    checked-sum-requires
     enum-known-sum
     litres-requires
     enum-known-r-2

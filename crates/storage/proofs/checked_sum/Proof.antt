@@ -1,4 +1,4 @@
--- `storage::gauge` meets its contract. The loop's invariant: no height passed is out of range, and the sum is that of their depths.
+-- `storage::checked_sum` meets its contract. The loop's invariant: no height passed is out of range, and the sum is that of their depths.
 use mathlib.Core.Path.{_≡_, refl, sym, ap, ap₂, _∙_}
 use mathlib.Core.Option.{none, some}
 use mathlib.Core.List.{List}
@@ -17,8 +17,8 @@ use Rattle.rules.specs.Storage.{depths, heightsCheck}
 use Rattle.rules.specs.Laws.Checks.{then-none, AllInRange, Part, rangeCheck-size, rangeCheck-refusal, rangeCheck-part, rangeCheck-longer, none-answer, some-answer}
 use Rattle.rules.specs.Laws.Storage.{sum-most, depths-part}
 use Rattle.range.specs.Found.{foundCheck}
-use Rattle.storage.proofs.gauge.Statement.{statement}
-use Rattle.storage.proofs.gauge.Tie as tie
+use Rattle.storage.proofs.checked_sum.Statement.{statement}
+use Rattle.storage.proofs.checked_sum.Tie as tie
 
 abbrev Inv-loop : tie.InvT-loop
 Inv-loop heights count stage sum₀ i₀ sum i = (i ≤ count) × (heightsCheck i heights ≡ none) × (sum ≡ depths i heights (toZ w64 stage))
@@ -198,8 +198,8 @@ add-i c = omega (arith, room (turn (c .before)))
 loop-less : tie.Need-loop-less Inv-loop μ-loop
 loop-less c = let t = turn (c .before) in omega (arith, t .before .loop-test .taken, t .lesser .ensures)
 
-pub gauge-spec : {M : Type 1} → statement M
-gauge-spec =
+pub checked-sum-spec : {M : Type 1} → statement M
+checked-sum-spec =
     tie.close
     (tie.spec
     Inv-loop

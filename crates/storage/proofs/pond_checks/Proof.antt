@@ -1,9 +1,9 @@
--- `storage::pond` meets its contract: each refusal is decided by the test that led to it, after the checks that passed before.
+-- `storage::pond_checks` meets its contract: each refusal is decided by the test that led to it, after the checks that passed before.
 use mathlib.Core.Path.{_≡_, sym, ap, _∙_}
 use mathlib.Core.Bool.{Bool, true, false}
 use mathlib.Core.Option.{none, some}
 use mathlib.Core.List.{List}
-use Prim.Native.Nat.{ℕ, _*_, _≤_}
+use Prim.Native.Nat.{ℕ, _*_}
 use native.Mathlib.Nat.{mul-le-mul}
 use native.Mathlib.Omega.{arith}
 use borrow.Author.Needs.{needs}
@@ -12,24 +12,20 @@ use lib.Dec.{leb}
 use lib.IntN.{ℤ}
 use lib.ListN.{length}
 use Rattle.rules.specs.Grid.{within}
-use Rattle.rules.specs.Answers.{Refusal, short, side, Check, require, _then_}
+use Rattle.rules.specs.Answers.{short, side, require, _then_}
 use Rattle.rules.specs.Calls.{countsCheck}
 use Rattle.rules.specs.Storage.{sideCheck, pondCheck}
 use Rattle.rules.specs.Laws.Checks.{then-none, then-some}
 use Rattle.rules.specs.Laws.Passed.{counts-passed}
 use Rattle.answers.specs.Cause.{found}
-use Rattle.storage.proofs.pond.Statement.{statement}
-use Rattle.storage.proofs.pond.Tie as tie
+use Rattle.storage.proofs.pond_checks.Statement.{statement}
+use Rattle.storage.proofs.pond_checks.Tie as tie
 
 -- ---- the check, by what was found
 
 module _ (columns rows : ℕ) (heights : List ℤ) (s : ℕ) where
   abbrev room : Bool
   room = leb (columns * rows) (length heights)
-
-  by-counts : {r : Refusal} → countsCheck columns rows ≡ some r → some r ≡ pondCheck columns rows heights s
-  unfolding pondCheck
-  by-counts e = sym (then-some (countsCheck columns rows) _ e)
 
   module _ (counted : countsCheck columns rows ≡ none) where
     behind : pondCheck columns rows heights s ≡ (require room short then sideCheck s)
@@ -51,9 +47,10 @@ module _ (c : tie.After-enum-told) where
   counted = found (c .before .before .counts .ensures) (c .enum-told .given .1)
 
 returns : tie.Need-returns
+unfolding pondCheck
 returns c =
     let a = c .before .before .before .before .args in
-    by-counts (a .columns) (a .rows) (a .heights .now) (a .side) (found (c .before .before .before .counts .ensures) (c .before .r .given .1))
+    sym (then-some (countsCheck (a .columns) (a .rows)) _ (found (c .before .before .before .counts .ensures) (c .before .r .given .1)))
 
 returns-2 : tie.Need-returns-2
 returns-2 c =
@@ -96,8 +93,8 @@ mul-if1 c =
 within-requires : tie.Need-within-requires
 within-requires c κs = search needs
 
-pub pond-spec : {M : Type 1} → statement M
-pond-spec =
+pub pond-checks-spec : {M : Type 1} → statement M
+pond-checks-spec =
     tie.close
     (tie.spec
     counts-requires
