@@ -1,10 +1,10 @@
-// The checks of cell counts, rasters' sizes and lent lattices that several calls share, in document 01's order.
+// The checks of lent lattices and cell counts that several calls share, in document 01's order.
 ghost use mathlib.Core.Path.{_≡_};
 ghost use Prim.Native.Nat.{_≤_};
 ghost use lib.ListN.{length};
 ghost use Rattle.rules.specs.Grid as grid;
 ghost use Rattle.rules.specs.Grid.{controls};
-ghost use Rattle.rules.specs.Calls.{cellsCheck, countsCheck, latticeCheck};
+ghost use Rattle.rules.specs.Calls.{cellsCheck, latticeCheck};
 ghost use Rattle.rules.specs.Laws.Passed.{Gridded};
 ghost use Rattle.answers.specs.Cause.{check};
 ghost use Rattle.checks.specs.Ready.{Tells, gridCheck, storedCheck};
@@ -64,19 +64,6 @@ pub fn gridded(m: usize, n: usize, unit: usize) -> Readiness
         }
     };
     Readiness::Of(e as u32)
-}
-
-// 8: "columns or rows above 8,193"
-pub fn counts(columns: usize, rows: usize) -> Verdict
-    ensures { λ r. ⌜ check r ≡ countsCheck columns rows ⌝ }
-{
-    if 8_193 < columns {
-        return Verdict::Refused(Refusal::Size);
-    }
-    if 8_193 < rows {
-        return Verdict::Refused(Refusal::Size);
-    }
-    Verdict::Fine
 }
 
 // 6, over a lattice: the first control value out of range

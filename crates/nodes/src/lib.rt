@@ -23,7 +23,13 @@ pub fn sizes(step: usize, columns: usize, rows: usize) -> Verdict
     if 8_192 < step {
         return Verdict::Refused(Refusal::Size);
     }
-    checks::counts(columns, rows)
+    if 8_193 < columns {
+        return Verdict::Refused(Refusal::Size);
+    }
+    if 8_193 < rows {
+        return Verdict::Refused(Refusal::Size);
+    }
+    Verdict::Fine
 }
 
 // 5: the first node outside, where nodes go row by row. Positions past the grid are never computed: x0 and y0 are tested first.

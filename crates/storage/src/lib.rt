@@ -85,8 +85,11 @@ fn checked_sum(heights: &[i64], count: usize, stage: i64) -> Summed
 fn pond_checks(columns: usize, rows: usize, heights: &[i64], side: usize) -> Verdict
     ensures { λ r. ⌜ check r ≡ rule.pondCheck columns rows (now (heights .entry)) side ⌝ }
 {
-    if let Verdict::Refused(r) = checks::counts(columns, rows) {
-        return Verdict::Refused(r);
+    if 8_193 < columns {
+        return Verdict::Refused(Refusal::Size);
+    }
+    if 8_193 < rows {
+        return Verdict::Refused(Refusal::Size);
     }
     if heights.len() < columns * rows {
         return Verdict::Refused(Refusal::Short);

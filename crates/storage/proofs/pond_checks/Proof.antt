@@ -15,9 +15,8 @@ use Rattle.rules.specs.Grid.{within}
 use Rattle.rules.specs.Answers.{short, side, require, _then_}
 use Rattle.rules.specs.Calls.{countsCheck}
 use Rattle.rules.specs.Storage.{sideCheck, pondCheck}
-use Rattle.rules.specs.Laws.Checks.{then-none, then-some}
+use Rattle.rules.specs.Laws.Checks.{then-none}
 use Rattle.rules.specs.Laws.Passed.{counts-passed}
-use Rattle.answers.specs.Cause.{found}
 use Rattle.storage.proofs.pond_checks.Statement.{statement}
 use Rattle.storage.proofs.pond_checks.Tie as tie
 
@@ -42,51 +41,50 @@ module _ (columns rows : ℕ) (heights : List ℤ) (s : ℕ) where
 
 -- ---- what it finds
 
-module _ (c : tie.After-enum-told) where
-  counted : countsCheck (c .before .before .before .args .columns) (c .before .before .before .args .rows) ≡ none
-  counted = found (c .before .before .counts .ensures) (c .enum-told .given .1)
-
 returns : tie.Need-returns
-unfolding pondCheck
-returns c =
-    let a = c .before .before .before .before .args in
-    sym (then-some (countsCheck (a .columns) (a .rows)) _ (found (c .before .before .before .counts .ensures) (c .before .r .given .1)))
+unfolding pondCheck countsCheck require _then_
+returns c = simp (lt-leb _ 8_193 (c .if1 .taken))
 
 returns-2 : tie.Need-returns-2
-returns-2 c =
-    let a = c .before .before .before .before .args in
-    by-room (a .columns) (a .rows) (a .heights .now) (a .side) (counted (c .before)) (lt-leb (a .columns * a .rows) (length (a .heights .now)) (c .if1 .taken))
+unfolding pondCheck countsCheck require _then_
+returns-2 c = simp (le-leb _ 8_193 (c .before .if1 .left), lt-leb _ 8_193 (c .if2 .taken))
+
+module _ (c : tie.Else2) where
+  abbrev start : tie.Start
+  start = c .before .before
+
+  counted : countsCheck (start .args .columns) (start .args .rows) ≡ none
+  unfolding countsCheck require
+  counted = simp (le-leb _ 8_193 (c .before .if1 .left), le-leb _ 8_193 (c .if2 .left))
+
+returns-3 : tie.Need-returns-3
+returns-3 c =
+    let e = c .before in
+    let a = start e .args in
+    by-room (a .columns) (a .rows) (a .heights .now) (a .side) (counted e) (lt-leb (a .columns * a .rows) (length (a .heights .now)) (c .if3 .taken))
 
 -- the last test
 module _ (c : tie.After-within) where
-  decided : {b : Bool} → c .within .result ≡ b → let a = c .before .before .before .before .before .args in require b side ≡ pondCheck (a .columns) (a .rows) (a .heights .now) (a .side)
+  decided : {b : Bool} → c .within .result ≡ b → let a = start (c .before .before) .args in require b side ≡ pondCheck (a .columns) (a .rows) (a .heights .now) (a .side)
   decided is =
-      let a = c .before .before .before .before .before .args in
-      by-side (a .columns) (a .rows) (a .heights .now) (a .side) (counted (c .before .before)) (le-leb (a .columns * a .rows) (length (a .heights .now)) (c .before .if1 .left))
+      let e = c .before .before in
+      let a = start e .args in
+      by-side (a .columns) (a .rows) (a .heights .now) (a .side) (counted e) (le-leb (a .columns * a .rows) (length (a .heights .now)) (c .before .if3 .left))
       (sym (c .within .ensures) ∙ is)
-
-returns-3 : tie.Need-returns-3
-unfolding require
-returns-3 c = decided (c .before) (not-true _ (c .if2 .taken))
 
 returns-4 : tie.Need-returns-4
 unfolding require
-returns-4 c = decided (c .before) (not-false _ (c .if2 .left))
+returns-4 c = decided (c .before) (not-true _ (c .if4 .taken))
+
+returns-5 : tie.Need-returns-5
+unfolding require
+returns-5 c = decided (c .before) (not-false _ (c .if4 .left))
 
 -- ---- what its steps ask
 
-counts-requires : tie.Need-counts-requires
-counts-requires c κs = search needs
-
-enum-known-r : tie.Need-enum-known-r
-enum-known-r c = search needs
-
-enum-told : tie.Need-enum-told
-enum-told c = search needs
-
-mul-if1 : tie.Need-mul-if1
-mul-if1 c =
-    let a = c .before .before .before .args in
+mul-if3 : tie.Need-mul-if3
+mul-if3 c =
+    let a = start c .args in
     let p = counts-passed (a .columns) (a .rows) (counted c) in
     omega (arith, mul-le-mul (p .0) (p .1))
 
@@ -94,15 +92,4 @@ within-requires : tie.Need-within-requires
 within-requires c κs = search needs
 
 pub pond-checks-spec : {M : Type 1} → statement M
-pond-checks-spec =
-    tie.close
-    (tie.spec
-    counts-requires
-    enum-known-r
-    returns
-    enum-told
-    mul-if1
-    returns-2
-    within-requires
-    returns-3
-    returns-4)
+pond-checks-spec = tie.close (tie.spec returns returns-2 mul-if3 returns-3 within-requires returns-4 returns-5)
