@@ -3,80 +3,31 @@
  *
  *   bench [seconds]
  *
- * Both run in this process on the same slices, in turns, for about so many seconds (1) a line, and the best processor time
- * of each counts. The slices are warm, and not cleared between runs. Inputs are random points and lattices on a smooth ground.
+ * Both run in this process on the same slices, in turns and in four places each, for about so many seconds (1) a line, and the best
+ * processor time of each counts. The slices are warm, and not cleared between runs. Inputs are random points and lattices on a
+ * smooth ground.
  */
+#include "timed.h"
 #include "../include/curlewtable.h"
 #include "../tests/common/basics.h"
-#include "../tests/common/call.h"
 #include "../tests/common/ground.h"
 #include "../tests/common/random.h"
-#include "../tests/reference/reference.h"
 
 #include <stdio.h>
 #include <stdlib.h>
 #include <string.h>
 
-#define LEAST_ROUNDS 10
-#define POSITIONS 5000                  /* heights or slopes in one run, at most */
+#define LEAST_TURNS 10
 #define SCANS 20                        /* heights in one run where each scans a large lattice */
-
-enum { LIBRARY, C, SIDES };
 
 static double seconds_a_line = 1.0;
 
-/* ---- what is timed ---- */
+/* ---- how it is timed ---- */
 
-/* A call, how often one run makes it, how it must end, and for heights and slopes the positions that it is made at. */
-typedef struct {
-    call call;
-    size_t calls;
-    uint64_t number;
-    size_t x[POSITIONS], y[POSITIONS];
-} job;
+/* The library and C again, so many bytes past a multiple of 64: bench/run makes them. */
+one_run run_once_0, run_once_16, run_once_32, run_once_48;
 
-static uint64_t answer_of_call(const job *j, runner *run)
-{
-    return run(&j->call).field[FIRST];
-}
-
-/*
- * Heights and slopes take so little time that they are called without a runner between; the sum keeps the calls from being
- * dropped. kind is the answer's type, and its function is kind_at.
- */
-#define AT_POSITIONS(name, kind, value)                                                        \
-    static uint64_t name(const job *j, runner *run)                                            \
-    {                                                                                          \
-        const size_t *v = j->call.number;                                                      \
-        const slice of = j->call.slice[LATTICE];                                               \
-        uint64_t sum = 0;                                                                      \
-        size_t i;                                                                              \
-                                                                                               \
-        (void)run;                                                                             \
-        for (i = 0; i < j->calls; i++) {                                                       \
-            const kind a = kind##_at(v[M], v[N], v[UNIT], of.at, of.length, j->x[i], j->y[i]); \
-            sum += a.number + a.place + (uint64_t)(value);                                     \
-        }                                                                                      \
-        return sum;                                                                            \
-    }
-
-AT_POSITIONS(heights_by_library, curlew_height, a.height)
-AT_POSITIONS(heights_by_c, ref_height, a.height)
-AT_POSITIONS(slopes_by_library, curlew_slope, a.along_x + a.along_y)
-AT_POSITIONS(slopes_by_c, ref_slope, a.along_x + a.along_y)
-
-typedef uint64_t work(const job *j, runner *run);
-
-static uint64_t run_once(const job *j, int side)
-{
-    static work *const at_positions[FUNCTIONS][SIDES] = {
-        [HEIGHT_AT] = { heights_by_library, heights_by_c }, [SLOPE_AT] = { slopes_by_library, slopes_by_c },
-    };
-    static runner *const run[SIDES] = { run_library, run_reference };
-    work *of_job = at_positions[j->call.function][side];
-
-    return of_job != NULL ? of_job(j, run[side]) : answer_of_call(j, run[side]);
-}
+static one_run *const places[] = { run_once_0, run_once_16, run_once_32, run_once_48 };
 
 /* Both must end as the job says and agree, or the times mean nothing. */
 static void check(const job *j)
@@ -90,26 +41,33 @@ static void check(const job *j)
     }
 }
 
-/* The best times of the two, in seconds. */
+/* The two by turns in one place, for its part of the time: so each finds the processor as its last run left it. */
+static void time_place(const job *j, one_run *run, double best[SIDES])
+{
+    const double end = now() + seconds_a_line / COUNT(places);
+    size_t turn;
+
+    for (turn = 0; turn < LEAST_TURNS || now() < end; turn++) {
+        const int side = turn % SIDES;
+        const double start = processor_time();
+        double taken;
+
+        run(j, side);
+        taken = processor_time() - start;
+        if (taken < best[side])
+            best[side] = taken;
+    }
+}
+
+/* The best times of the two, each in the place that suits it, in seconds. */
 static void time_both(const job *j, double best[SIDES])
 {
-    const double end = now() + seconds_a_line;
-    size_t round;
-    int side;
+    size_t at;
 
     check(j);
     best[LIBRARY] = best[C] = 1e9;
-    for (round = 0; round < LEAST_ROUNDS || now() < end; round++) {
-        for (side = 0; side < SIDES; side++) {
-            const double start = processor_time();
-            double taken;
-
-            run_once(j, side);
-            taken = processor_time() - start;
-            if (taken < best[side])
-                best[side] = taken;
-        }
-    }
+    for (at = 0; at < COUNT(places); at++)
+        time_place(j, places[at], best);
 }
 
 /* ---- inputs ---- */

@@ -1,0 +1,47 @@
+/* One run of a job by the library or by the C beside it. */
+#include "timed.h"
+#include "../include/curlewtable.h"
+#include "../tests/reference/reference.h"
+
+static uint64_t answer_of_call(const job *j, runner *run)
+{
+    return run(&j->call).field[FIRST];
+}
+
+/*
+ * Heights and slopes take so little time that they are called without a runner between; the sum keeps the calls from being
+ * dropped. kind is the answer's type, and its function is kind_at.
+ */
+#define AT_POSITIONS(name, kind, value)                                                        \
+    static uint64_t name(const job *j, runner *run)                                            \
+    {                                                                                          \
+        const size_t *v = j->call.number;                                                      \
+        const slice of = j->call.slice[LATTICE];                                               \
+        uint64_t sum = 0;                                                                      \
+        size_t i;                                                                              \
+                                                                                               \
+        (void)run;                                                                             \
+        for (i = 0; i < j->calls; i++) {                                                       \
+            const kind a = kind##_at(v[M], v[N], v[UNIT], of.at, of.length, j->x[i], j->y[i]); \
+            sum += a.number + a.place + (uint64_t)(value);                                     \
+        }                                                                                      \
+        return sum;                                                                            \
+    }
+
+AT_POSITIONS(heights_by_library, curlew_height, a.height)
+AT_POSITIONS(heights_by_c, ref_height, a.height)
+AT_POSITIONS(slopes_by_library, curlew_slope, a.along_x + a.along_y)
+AT_POSITIONS(slopes_by_c, ref_slope, a.along_x + a.along_y)
+
+typedef uint64_t work(const job *j, runner *run);
+
+uint64_t run_once(const job *j, int side)
+{
+    static work *const at_positions[FUNCTIONS][SIDES] = {
+        [HEIGHT_AT] = { heights_by_library, heights_by_c }, [SLOPE_AT] = { slopes_by_library, slopes_by_c },
+    };
+    static runner *const run[SIDES] = { run_library, run_reference };
+    work *of_job = at_positions[j->call.function][side];
+
+    return of_job != NULL ? of_job(j, run[side]) : answer_of_call(j, run[side]);
+}
