@@ -58,9 +58,8 @@ unfoldable pub refusalOf : Check → ℤ
 refusalOf none = pos 0
 refusalOf (some r) = pos (1_000 * number r + place r)
 
--- out of range
-abbrev high : ℤ
-high = pos 4_000_000_001
+abbrev tooHigh : ℤ
+tooHigh = pos 4_000_000_001
 
 unfoldable pub table : List Line
 table =
@@ -103,20 +102,21 @@ table =
     ∷ (pos (nodeY (nodes 1 2 0 2 2) 3) is pos 10)
     ∷ (pos (nodeX (nodes 1 2 16 2 2) 3) is pos 17)
     ∷ (pos (nodeY (nodes 1 2 16 2 2) 3) is pos 18)
-    -- "the floor of (sum of depths × s²) / 100,000 litres": two depths of half a litre; one of a litre less 1 micrometre; one of a litre beside a node that
-    -- is dry by 1 micrometre; a litre 1 millimetre deep on a square metre
+    -- "the floor of (sum of depths × s²) / 100,000 litres": two depths of half a litre; one of a litre less 1 micrometre; one of a litre, and one of a
+    -- litre less 1, beside a node that is dry by 1 micrometre; a litre 1 millimetre deep on a square metre
     ∷ (pos (storage 1 2 (pos 0 ∷ pos 0 ∷ []) (pos 50_000) 1) is pos 1)
     ∷ (pos (storage 1 1 (pos 1 ∷ []) (pos 100_000) 1) is pos 0)
     ∷ (pos (storage 2 1 (negℤ (pos 100_000) ∷ pos 1 ∷ []) (pos 0) 1) is pos 1)
+    ∷ (pos (storage 2 1 (negℤ (pos 99_999) ∷ pos 1 ∷ []) (pos 0) 1) is pos 0)
     ∷ (pos (storage 1 1 (pos 0 ∷ []) (pos 1_000) 10) is pos 1)
     -- its refusals: 8, 4, 16, then 6, "the stage as index 0 and then the heights from 1"; past the raster nothing is looked at
-    ∷ (refusalOf (storageCheck 0 8_194 [] high 0) is pos 8_000)
-    ∷ (refusalOf (storageCheck 1 1 [] high 0) is pos 4_000)
-    ∷ (refusalOf (storageCheck 1 1 (high ∷ []) high 101) is pos 16_000)
-    ∷ (refusalOf (storageCheck 1 1 (high ∷ []) high 0) is pos 16_000)
-    ∷ (refusalOf (storageCheck 1 1 (high ∷ []) high 100) is pos 6_000)
-    ∷ (refusalOf (storageCheck 1 2 (pos 0 ∷ high ∷ []) (pos 0) 1) is pos 6_002)
-    ∷ (refusalOf (storageCheck 1 1 (pos 0 ∷ high ∷ []) (pos 0) 1) is pos 0)
+    ∷ (refusalOf (storageCheck 0 8_194 [] tooHigh 0) is pos 8_000)
+    ∷ (refusalOf (storageCheck 1 1 [] tooHigh 0) is pos 4_000)
+    ∷ (refusalOf (storageCheck 1 1 (tooHigh ∷ []) tooHigh 101) is pos 16_000)
+    ∷ (refusalOf (storageCheck 1 1 (tooHigh ∷ []) tooHigh 0) is pos 16_000)
+    ∷ (refusalOf (storageCheck 1 1 (tooHigh ∷ []) tooHigh 100) is pos 6_000)
+    ∷ (refusalOf (storageCheck 1 2 (pos 0 ∷ tooHigh ∷ []) (pos 0) 1) is pos 6_002)
+    ∷ (refusalOf (storageCheck 1 1 (pos 0 ∷ tooHigh ∷ []) (pos 0) 1) is pos 0)
     ∷ []
 
 -- the whole table, computed

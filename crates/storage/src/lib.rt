@@ -82,7 +82,7 @@ fn checked_sum(heights: &[i64], count: usize, stage: i64) -> Summed
 }
 
 // 8, 4 and 16: what does not depend on the stage or on any height. A raster tests its columns and rows by itself (`nodes::sizes`): a function for both
-// gives its loops other registers, and they are slower.
+// gives the raster's loops other registers, and they are slower.
 fn pond_checks(columns: usize, rows: usize, heights: &[i64], side: usize) -> Verdict
     ensures { λ r. ⌜ check r ≡ rule.pondCheck columns rows (now (heights .entry)) side ⌝ }
 {

@@ -16,7 +16,7 @@ use Rattle.storage.proofs.depth_sum.Statement.{statement}
 use Rattle.storage.proofs.depth_sum.Tie as tie
 
 abbrev Inv-loop : tie.InvT-loop
-Inv-loop heights stage sum₀ i₀ sum i = (i ≤ length heights) × (sum ≡ rule.depths i heights (toZ w64 stage))
+Inv-loop heights stage sum₀ i₀ sum i = (sum ≡ rule.depths i heights (toZ w64 stage)) × (i ≤ length heights)
 
 abbrev μ-loop : tie.MeasureT-loop
 μ-loop heights stage sum₀ i₀ sum i = length heights - i
@@ -43,7 +43,7 @@ module _ (c : tie.In-loop Inv-loop μ-loop) where
   sum-fits : c .before .loop .sum ≤ 537_001_992_000_000_000
   sum-fits =
       let s = c .before .before in
-      rw (c .before .loop .inv .1)
+      rw (c .before .loop .inv .0)
       (sum-most i heights stage (omega (arith, s .pre .0, c .loop-test .taken)) (small limit tt (stage-held s)) (λ k l. s .pre .1 k (omega (arith, l, c .loop-test .taken))))
 
 module _ (c : tie.After-depth Inv-loop μ-loop) where
@@ -63,20 +63,20 @@ module _ (c : tie.After-depth Inv-loop μ-loop) where
 
 loop-holds : tie.Need-loop-holds Inv-loop μ-loop
 unfolding rule.depths
-loop-holds c = (omega arith, refl)
+loop-holds c = (refl, omega arith)
 
 loop-again : tie.Need-loop-again Inv-loop μ-loop
 unfolding rule.depths
 loop-again c =
     let t = turn c in
-    (omega (arith, t .loop-test .taken), ap₂ _+_ (t .before .loop .inv .1) (depth-is c) ∙ ap (λ n. rule.depths n (heights t) (stage t)) (sym (add-one (i t))))
+    (ap₂ _+_ (t .before .loop .inv .0) (depth-is c) ∙ ap (λ n. rule.depths n (heights t) (stage t)) (sym (add-one (i t))), omega (arith, t .loop-test .taken))
 
 returns : tie.Need-returns Inv-loop μ-loop
 returns c =
     let l = c .before .loop in
     let s = c .before .before in
     let last : l .i ≡ length (s .args .heights .now) = omega arith in
-    l .inv .1 ∙ ap₂ (λ n z. rule.depths n (s .args .heights .now) z) last (stage-held s .is)
+    l .inv .0 ∙ ap₂ (λ n z. rule.depths n (s .args .heights .now) z) last (stage-held s .is)
 
 -- ---- what its steps ask
 
