@@ -5,7 +5,7 @@
  *
  * Both run in this process on the same slices, in turns and in four places each, for about so many seconds (1) a line, and the best
  * processor time of each counts. The slices are warm, and not cleared between runs. Inputs are random points and lattices on a
- * smooth ground.
+ * smooth ground; stages are tried on level and on rough ground, where C makes the raster and scans it.
  */
 #include "timed.h"
 #include "../include/curlewtable.h"
@@ -282,6 +282,142 @@ static job *reading(job *j)
     return j;
 }
 
+/* ---- ground above a stage, on 512 x 512 cells with 2,049 x 2,049 nodes ---- */
+
+#define GROUND INT64_C(100000000)       /* 100 metres */
+#define METRE INT64_C(1000000)
+#define NOISE 1000                      /* a millimetre */
+#define PEAKS 335                       /* with 16 cells about each, 2 % of them */
+
+static const size_t cells_a_side = 512, nodes_a_side = 2049;
+
+static void need(int holds, const char *what)
+{
+    if (!holds) {
+        fprintf(stderr, "ground above a stage: %s\n", what);
+        exit(1);
+    }
+}
+
+/* Level ground, give or take a millimetre, and the stage a metre above it. */
+static job *level_job(void)
+{
+    generator g = generator_of(4, cells_a_side);
+    job *j = raster_job(cells_a_side, 4);
+    int64_t *values = j->call.slice[LATTICE].at;
+    size_t at;
+
+    j->call.function = ANY_ABOVE;
+    j->call.number[STAGE] = (size_t)(GROUND + METRE);
+    for (at = 0; at < j->call.slice[LATTICE].length; at++)
+        values[at] = GROUND + between(&g, -NOISE, NOISE);
+    return j;
+}
+
+/* The cells that have a control value above the stage, in thousandths of all. */
+static size_t cells_with_one_above(const job *j)
+{
+    const int64_t *values = j->call.slice[LATTICE].at, stage = (int64_t)j->call.number[STAGE];
+    size_t i, k, at, cells = 0;
+
+    for (i = 0; i < cells_a_side; i++)
+        for (k = 0; k < cells_a_side; k++) {
+            for (at = 0; at < 16 && values[(i + at / 4) * (cells_a_side + 3) + k + at % 4] <= stage;)
+                at++;
+            cells += at < 16;
+        }
+    return 1000 * cells / (cells_a_side * cells_a_side);
+}
+
+/* The heights of the job's nodes, by the reference. */
+static const int64_t *heights_of(const job *j)
+{
+    call raster = j->call;
+
+    raster.function = RASTER;
+    run_reference(&raster);
+    return raster.slice[VALUES].at;
+}
+
+/* How many of them are above the stage, and the last of these. */
+static size_t nodes_above(const job *j, size_t *last)
+{
+    const int64_t *heights = heights_of(j), stage = (int64_t)j->call.number[STAGE];
+    size_t at, above = 0;
+
+    for (at = 0; at < nodes_a_side * nodes_a_side; at++)
+        if (heights[at] > stage) {
+            *last = at;
+            above++;
+        }
+    return above;
+}
+
+/* Makes sure that no node is above the stage, and of how many cells, in thousandths, have a control value above it. */
+static job *none_above(job *j, size_t least_cells, size_t most_cells)
+{
+    const size_t cells = cells_with_one_above(j);
+    size_t last;
+
+    need(nodes_above(j, &last) == 0, "a node stands above");
+    need(cells >= least_cells && cells <= most_cells, "another part of the cells has a control value above");
+    return j;
+}
+
+/* All control values at or below the stage, the greatest at it. */
+static job *all_below_job(void)
+{
+    job *j = level_job();
+
+    j->call.number[STAGE] = (size_t)(GROUND + NOISE);
+    return none_above(j, 0, 0);
+}
+
+/* Single control values a millimetre above the stage, which no node reaches. */
+static job *peaks_job(void)
+{
+    generator g = generator_of(5, PEAKS);
+    job *j = level_job();
+    int64_t *values = j->call.slice[LATTICE].at;
+    size_t peak;
+
+    for (peak = 0; peak < PEAKS; peak++)
+        values[below(&g, j->call.slice[LATTICE].length)] = GROUND + METRE + NOISE;
+    return none_above(j, 15, 25);
+}
+
+/* Control values a metre up and down by turns, of which a ninth is left in the heights; the stage at the greatest of these. */
+static job *rough_job(void)
+{
+    job *j = level_job();
+    int64_t *values = j->call.slice[LATTICE].at, stage;
+    const size_t across = cells_a_side + 3;
+    const int64_t *heights;
+    size_t at;
+
+    for (at = 0; at < j->call.slice[LATTICE].length; at++)
+        values[at] += (at / across + at % across) % 2 == 0 ? METRE : -METRE;
+    heights = heights_of(j);
+    stage = heights[0];
+    for (at = 0; at < nodes_a_side * nodes_a_side; at++)
+        stage = heights[at] > stage ? heights[at] : stage;
+    j->call.number[STAGE] = (size_t)stage;
+    return none_above(j, 1000, 1000);
+}
+
+/* Peaks, and a hill at the corner of so many cells along both axes that is above the stage at that node and at no other. */
+static job *hill_job(size_t cells)
+{
+    job *j = peaks_job();
+    int64_t *values = j->call.slice[LATTICE].at;
+    const size_t node = cells * (nodes_a_side - 1) / cells_a_side;
+    size_t last = 0;
+
+    values[(cells + 1) * (cells_a_side + 3) + cells + 1] = GROUND + 2 * METRE + 350 * NOISE;
+    need(nodes_above(j, &last) == 1 && last == node * nodes_a_side + node, "another node than the hill's stands above");
+    return j;
+}
+
 /* ---- tables ---- */
 
 static void print_time(double seconds)
@@ -302,6 +438,22 @@ static void line(const char *what, job *j)
     print_time(best[LIBRARY] / (double)j->calls);
     print_time(best[C] / (double)j->calls);
     printf("%9.2f\n", best[LIBRARY] / best[C]);
+    fflush(stdout);
+    free_job(j);
+}
+
+/* A line of the table of stages: also the library's time as a part of that for the raster of the same nodes. */
+static void above_line(const char *what, job *j)
+{
+    double best[SIDES], raster[SIDES];
+
+    time_both(j, best);
+    j->call.function = RASTER;
+    time_both(j, raster);
+    printf("%-52s", what);
+    print_time(best[LIBRARY]);
+    print_time(best[C]);
+    printf("%9.4f%11.4f\n", best[LIBRARY] / best[C], best[LIBRARY] / raster[LIBRARY]);
     fflush(stdout);
     free_job(j);
 }
@@ -360,6 +512,17 @@ static void calls_table(void)
     line("read_points, 65,535 points", reading(write_points_job(65535)));
 }
 
+static void above_table(void)
+{
+    printf("\n%-52s%15s%15s%9s%11s\n", "ground above a stage, 2,049 x 2,049 nodes", "library", "C", "ratio", "of raster");
+    above_line("no, 98 % of the cells below", peaks_job());
+    above_line("no, every cell with a control value above", rough_job());
+    above_line("no, every control value at the stage or below", all_below_job());
+    above_line("yes, at the first node", hill_job(0));
+    above_line("yes, at the middle node", hill_job(256));
+    above_line("yes, at the last node", hill_job(512));
+}
+
 static void growth_tables(void)
 {
     static const size_t points[] = { 1000, 4000, 16000, 32000, 65535 }, cells[] = { 1, 2, 4, 8, 16 };
@@ -385,6 +548,7 @@ int main(int argc, char **argv)
         return 2;
     }
     calls_table();
+    above_table();
     growth_tables();
     return 0;
 }

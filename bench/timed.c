@@ -33,15 +33,31 @@ AT_POSITIONS(heights_by_c, ref_height, a.height)
 AT_POSITIONS(slopes_by_library, curlew_slope, a.along_x + a.along_y)
 AT_POSITIONS(slopes_by_c, ref_slope, a.along_x + a.along_y)
 
+/* What C does without such a call: the raster into the job's values, and then a scan of them. */
+static uint64_t raster_then_scan(const job *j, runner *run)
+{
+    const int64_t *heights = j->call.slice[VALUES].at, stage = (int64_t)j->call.number[STAGE];
+    call raster = j->call;
+    uint64_t nodes, at;
+
+    raster.function = RASTER;
+    nodes = run(&raster).field[FIRST];
+    for (at = 0; at < nodes; at++)
+        if (heights[at] > stage)
+            return 1;
+    return 0;
+}
+
 typedef uint64_t work(const job *j, runner *run);
 
 uint64_t run_once(const job *j, int side)
 {
-    static work *const at_positions[FUNCTIONS][SIDES] = {
+    static work *const of_function[FUNCTIONS][SIDES] = {
         [HEIGHT_AT] = { heights_by_library, heights_by_c }, [SLOPE_AT] = { slopes_by_library, slopes_by_c },
+        [ANY_ABOVE] = { NULL, raster_then_scan },
     };
     static runner *const run[SIDES] = { run_library, run_reference };
-    work *of_job = at_positions[j->call.function][side];
+    work *of_job = of_function[j->call.function][side];
 
     return of_job != NULL ? of_job(j, run[side]) : answer_of_call(j, run[side]);
 }

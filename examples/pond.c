@@ -13,25 +13,13 @@
  * Every node below a stage counts, whether or not the water could reach it or would run off: it is the basin's own lattice that
  * this is for.
  *
- * Ends with 0, with 1 where the library refuses (number and place on standard error; docs/HOST.md has the words), with 2 where the
- * program itself cannot go on: bad usage, a file that cannot be read, no memory.
+ * How it ends is in lattice.h.
  */
-#include "curlewtable.h"
+#include "lattice.h"
 
-#include <errno.h>
-#include <inttypes.h>
-#include <stdio.h>
-#include <stdlib.h>
-#include <string.h>
-
-#define UNIT 16                     /* the lattice that a fit leaves is read with U = 16 */
-#define MOST_CELLS 512
 #define STAGES 10                   /* equal parts from the lowest node to the highest */
-#define MICROMETRES 1000000         /* in a metre */
 #define DECIMETRES 10               /* in a metre */
 #define EXACT 1e-9                  /* how near a number of positions is to a whole one, as a part of it */
-
-enum { DONE = 0, REFUSED = 1, FAILED = 2 };
 
 /* The ground, and the nodes that stand for its squares. */
 typedef struct {
@@ -42,48 +30,6 @@ typedef struct {
     size_t columns, rows;
     int64_t *heights;
 } basin;
-
-static int failed(const char *what, const char *name)
-{
-    fprintf(stderr, "%s: %s\n", what, name);
-    return FAILED;
-}
-
-static int refused(const char *call, size_t number, size_t place)
-{
-    fprintf(stderr, "%s refused: number %zu, place %zu\n", call, number, place);
-    return REFUSED;
-}
-
-/* ---- the ground */
-
-/* One byte more than the longest lattice file is enough: the reader finds it after the end. */
-static int read_ground(basin *b, const char *name)
-{
-    const size_t most = CURLEW_LATTICE_FILE(MOST_CELLS, MOST_CELLS) + 1, controls = CURLEW_CONTROLS(MOST_CELLS, MOST_CELLS);
-    FILE *file = fopen(name, "rb");
-    uint8_t *bytes;
-    size_t length = 0;
-    int result = DONE;
-
-    if (file == NULL)
-        return failed(name, strerror(errno));
-    bytes = calloc(most, 1);
-    b->lattice = calloc(controls, sizeof *b->lattice);
-    if (bytes == NULL || b->lattice == NULL)
-        result = failed(name, "no memory");
-    else
-        length = fread(bytes, 1, most, file);
-    if (result == DONE && ferror(file))
-        result = failed(name, "cannot be read");
-    fclose(file);
-    if (result == DONE)
-        b->cells = curlew_read_lattice(bytes, length, b->lattice, controls);
-    if (result == DONE && b->cells.number != 0)
-        result = refused("curlew_read_lattice", b->cells.number, b->cells.place);
-    free(bytes);
-    return result;
-}
 
 /* ---- the squares */
 
@@ -155,16 +101,6 @@ static span span_of(const int64_t *heights, size_t nodes)
     return s;
 }
 
-/* Metres from whole micrometres; the sign apart, since -0.5 m has no whole metre to carry it. */
-static void print_line(int64_t stage, uint64_t litres)
-{
-    const int64_t size = stage < 0 ? -stage : stage;
-    char text[32];
-
-    snprintf(text, sizeof text, "%s%" PRId64 ".%06" PRId64, stage < 0 ? "-" : "", size / MICROMETRES, size % MICROMETRES);
-    printf("%12s %20" PRIu64 "\n", text, litres);
-}
-
 static int print_table(const basin *b)
 {
     const size_t nodes = b->columns * b->rows;
@@ -178,11 +114,10 @@ static int print_table(const basin *b)
         const curlew_storage stored = curlew_storage_at(b->columns, b->rows, b->heights, nodes, stage, b->side);
         if (stored.number != 0)
             return refused("curlew_storage_at", stored.number, stored.place);
-        print_line(stage, stored.litres);
+        print_metres(stage);
+        printf(" %20" PRIu64 "\n", stored.litres);
     }
-    if (fflush(stdout) != 0 || ferror(stdout))
-        return failed("cannot write standard output", strerror(errno));
-    return DONE;
+    return written();
 }
 
 int main(int words, char **word)
@@ -194,7 +129,7 @@ int main(int words, char **word)
         fprintf(stderr, "usage: pond LATTICE SIDE SIZE [SIZE_Y]\n");
         return FAILED;
     }
-    result = read_ground(&b, word[1]);
+    result = read_lattice(word[1], &b.cells, &b.lattice);
     if (result == DONE)
         result = lay_out(&b, words, word);
     if (result == DONE)

@@ -22,7 +22,7 @@
  *    3  x, y, z lists differ in length, or over 65,535 points                                   place 0
  *    4  a lent slice is too short                                                               place 0
  *    5  position outside                           the point's or node's index, 0 for a single height or slope
- *    6  height or control value out of range          its index; of a storage 0 for the stage, and the heights from 1
+ *    6  height or control value out of range                  its index, of a storage's heights from 1; 0 for a stage
  *    7  a quotient out of range in a level of the fit                                           the level
  *    8  step above 8,192, or columns or rows above 8,193                                        place 0
  *    9  record incomplete                                                          the byte of the record's start
@@ -33,12 +33,13 @@
  *   14  a sum out of range in a level of the fit                                                the level
  *   15  a difference from the base of the fit out of range                                      the point's index
  *   16  a node side outside 1..100 decimetres                                                   place 0
+ * So place 0 of an any_above's 6 is the stage's or the first control value's.
  * A refusal leaves every slice as it was, but for 7, 13 and 14: the scratch prefixes are then zero, as after an acceptance, and
  * lattice and residuals are as they were. The order of the checks is 1, 2, 3, 8, 4, then 5 and 6; points in list order, 5 before
- * 6 in a point, elsewhere the whole lattice (6) before positions (5); of a storage the side (16) before 6; of a fit whose points
- * are all in order the differences (15), and then its levels one by one, in each all quotients (7), then all residuals (13),
- * then all sums (14), and after the last level the sums with the base (14); readers record by record, 9, 10, 11, then 12, then
- * 4.
+ * 6 in a point, elsewhere the whole lattice (6) before positions (5); a stage (6) before the lattice or the heights; of a storage
+ * the side (16) before 6; of a fit whose points are all in order the differences (15), and then its levels one by one, in each all
+ * quotients (7), then all residuals (13), then all sums (14), and after the last level the sums with the base (14); readers record
+ * by record, 9, 10, 11, then 12, then 4.
  */
 #ifndef CURLEWTABLE_H
 #define CURLEWTABLE_H
@@ -90,6 +91,12 @@ typedef struct {
     size_t number, place;
     size_t count;
 } curlew_count;
+
+/* any_above: whether some ground stands above the stage, 1 for yes and 0 for no */
+typedef struct {
+    size_t number, place;
+    size_t above;
+} curlew_above;
 
 /* read_points: the header's fields */
 typedef struct {
@@ -151,6 +158,18 @@ curlew_cells curlew_refine(size_t m, size_t n, const int64_t *lattice, size_t la
  */
 curlew_count curlew_raster(size_t m, size_t n, size_t unit, const int64_t *lattice, size_t lattice_len, size_t x0, size_t y0,
                            size_t step, size_t columns, size_t rows, int64_t *output, size_t output_len);
+
+/*
+ * Whether any ground stands above a stage in range, in micrometres: 1 exactly if some node of the raster with the same x0, y0, step,
+ * columns and rows has a height above the stage, else 0. A height at the stage is not above it; no columns or no rows is 0. Nothing
+ * is written, and no output is lent. Cells whose sixteen control values are at or below the stage cost little, and the walk ends at
+ * the first node found above.
+ * Refuses 1, 2, 8, 4, 6, 5: 6 for the stage first, with place 0, then for the control values, of which the first has place 0 too; 5
+ * (the first node outside, as of a raster) before any height, so also where an earlier node stands above. Each call scans the whole
+ * lattice once for 6.
+ */
+curlew_above curlew_any_above(size_t m, size_t n, size_t unit, const int64_t *lattice, size_t lattice_len, size_t x0, size_t y0,
+                              size_t step, size_t columns, size_t rows, int64_t stage);
 
 /* ---- above the surface engine */
 

@@ -18,6 +18,7 @@ const shape shapes[FUNCTIONS] = {
     [SLOPE_AT] = { "slope_at", 512, POSITION, BIT(LATTICE), 0 },
     [REFINE] = { "refine", 256, CELLS, BIT(LATTICE) | BIT(VALUES), BIT(VALUES) },
     [RASTER] = { "raster", 512, NODES, BIT(LATTICE) | BIT(VALUES), BIT(VALUES) },
+    [ANY_ABOVE] = { "any_above", 512, NODES | BIT(STAGE), BIT(LATTICE), 0 },
     [STORAGE_AT] = { "storage_at", 0, BIT(COLUMNS) | BIT(ROWS) | BIT(STAGE) | BIT(NODE_SIDE), BIT(VALUES), 0 },
     [READ_LATTICE] = { "read_lattice", 0, 0, BIT(BYTES) | BIT(VALUES), BIT(VALUES) },
     [WRITE_LATTICE] = { "write_lattice", 512, CELLS, BIT(LATTICE) | BIT(BYTES), BIT(BYTES) },

@@ -14,6 +14,7 @@ typedef enum {
     SLOPE_AT,
     REFINE,
     RASTER,
+    ANY_ABOVE,
     STORAGE_AT,
     READ_LATTICE,
     WRITE_LATTICE,

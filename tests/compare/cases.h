@@ -16,6 +16,18 @@ typedef void test_case(generator *g, size_class size);
  */
 test_case fit_case, range_end_case, leap_case, tie_case, height_case, slope_case, refine_case, raster_case;
 
+/* The ground above a stage: a few stages on one lattice, each answered or refused as a scan of the raster of the same nodes. */
+test_case above_case;
+
+/* The same with one or two high control values, in all places of a lattice, or with few nodes and in some. */
+void every_peak(int few);
+
+/* The same on the most nodes there are, by known answers. */
+void largest_above(void);
+
+/* What the stages' calls answered. */
+void print_above(void);
+
 /*
  * Pond storage: of any heights, where a higher stage must not store less, and of the heights that a raster has left, of which none
  * may be refused.
@@ -25,8 +37,15 @@ test_case storage_case, sampled_case;
 /* The storage of the largest raster, by its known litres. */
 void largest_storage(void);
 
-/* A raster's call, with no trouble. */
+/* A raster's call, with no trouble; and its parts: a lattice to be read with a unit, and a position of it. */
 draft some_sampling(generator *g, size_class size);
+draft some_surface(generator *g, function f, size_class size);
+
+/* Columns or rows: most often as many as fit from start to far, sometimes one too many, sometimes none. */
+size_t some_nodes(generator *g, size_t start, size_t far, size_t step, size_t most);
+
+/* One trouble of a call on a raster's nodes. */
+void raster_trouble(generator *g, draft *d);
 
 /* The two files: written, then read back whole or damaged. */
 test_case lattice_file_case, point_file_case;
@@ -47,8 +66,8 @@ size_t some_point_count(generator *g, size_class size);
 void every_file_damage(int few_values);
 
 /*
- * The examples of documents 01 and 02 by their printed values, slopes, bases and storages by known ones, a fit refused for each
- * figure, and each value of some lattices and rasters out of range in turn; returns how many examples there are.
+ * The examples of documents 01 and 02 by their printed values, slopes, bases, stages and storages by known ones, a fit refused for
+ * each figure, and each value of some lattices and rasters out of range in turn; returns how many examples there are.
  */
 size_t run_examples(void);
 

@@ -3,9 +3,9 @@
  *
  *   compare [--vectors DIR] [--small] [--case N] [seconds [seed]]
  *
- * First come the examples of documents 01 and 02, lattices and rasters with each value out of range in turn, the storage of the
- * largest raster, with --vectors every line of the outside vectors of that folder, and every damage of a small file; then random
- * cases for about so many seconds (30).
+ * First come the examples of documents 01 and 02, lattices and rasters with each value out of range in turn, stage and storage of
+ * the largest raster, with --vectors every line of the outside vectors of that folder, stages on a lattice with high values in all its
+ * places, and every damage of a small file; then random cases for about so many seconds (30).
  * --small leaves out the larger cases, for slow tools. Prints how many calls were compared, by function and answer. At the
  * first difference it prints the call and its case number N, and exits with status 1; "compare --case N 0 seed" runs that case
  * alone.
@@ -39,8 +39,9 @@ static const struct {
     size_t weight;
 } kinds[] = {
     { fit_case, 200 }, { range_end_case, 10 }, { leap_case, 20 }, { tie_case, 50 }, { height_case, 150 },
-    { slope_case, 150 }, { refine_case, 100 }, { raster_case, 200 }, { storage_case, 150 }, { sampled_case, 50 },
-    { lattice_file_case, 150 }, { point_file_case, 150 }, { demand3_case, 3 }, { exact_case, 2 }, { half_case, 30 },
+    { slope_case, 150 }, { refine_case, 100 }, { raster_case, 200 }, { above_case, 100 }, { storage_case, 150 },
+    { sampled_case, 50 }, { lattice_file_case, 150 }, { point_file_case, 150 }, { demand3_case, 3 }, { exact_case, 2 },
+    { half_case, 30 },
 };
 
 #define KINDS COUNT(kinds)
@@ -156,13 +157,16 @@ static int read_options(int argc, char **argv, options *o)
 static int run_fixed(const options *o)
 {
     printf("%zu examples hold\n", run_examples());
-    if (!o->small)
+    if (!o->small) {
+        largest_above();
         largest_storage();
+    }
     if (o->vectors != NULL) {
         trial_name("a line of the outside vectors", 1);
         if (run_calls(o->vectors, trial) > 0)
             return 0;
     }
+    every_peak(o->small);
     every_file_damage(o->small);
     return 1;
 }
@@ -181,6 +185,7 @@ int main(int argc, char **argv)
             return 1;
         printf("%" PRIu64 " random cases of seed %" PRIu64 "\n", run_cases(&o), o.seed);
         print_demand3();
+        print_above();
     }
     print_compared();
     return 0;

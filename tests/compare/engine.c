@@ -6,8 +6,6 @@
 
 #include "../../include/curlewtable.h"
 
-#define MOST_STEP 8192
-
 /* ---- fits ---- */
 
 size_t some_point_count(generator *g, size_class size)
@@ -229,8 +227,7 @@ static void height_trouble(generator *g, draft *d)
     }
 }
 
-/* A lattice to be read with a unit, and a position of it. */
-static draft some_surface(generator *g, function f, size_class size)
+draft some_surface(generator *g, function f, size_class size)
 {
     draft d = new_draft(f);
     size_t *v = d.call.number;
@@ -321,8 +318,7 @@ static size_t some_step(generator *g, size_t unit)
     return once_in(g, 4) ? below(g, MOST_STEP + 1) : steps[below(g, COUNT(steps))];
 }
 
-/* Columns or rows: most often as many as fit from start to far, sometimes one too many, sometimes none. */
-static size_t some_nodes(generator *g, size_t start, size_t far, size_t step, size_t most)
+size_t some_nodes(generator *g, size_t start, size_t far, size_t step, size_t most)
 {
     const size_t fit = (far - start) / step_of(step) + 1;
     const size_t nodes = fit < most ? fit : most;
@@ -342,7 +338,7 @@ static size_t some_nodes(generator *g, size_t start, size_t far, size_t step, si
     }
 }
 
-static void raster_trouble(generator *g, draft *d)
+void raster_trouble(generator *g, draft *d)
 {
     size_t *v = d->call.number;
 

@@ -1,6 +1,7 @@
 /*
  * The examples of document 01 ("Table of checked examples"), as document 02 leaves them, and a few more with known answers,
- * among them slopes, storages and a fit refused for each figure, each as a trial whose answer and results are held to those values.
+ * among them slopes, ground above a stage, storages and a fit refused for each figure, each as a trial whose answer and results are
+ * held to those values.
  */
 #include "cases.h"
 #include "trial.h"
@@ -386,6 +387,107 @@ static void offender_examples(void)
     }
 }
 
+/* ---- ground above a stage: the lattice of E1, E2 and E3, or level ground ---- */
+
+/* So many columns and rows from (0, 0) on at the default step. */
+static draft stage_on(int64_t value, size_t columns, size_t rows, int64_t stage)
+{
+    draft d = single_value(ANY_ABOVE, 1, 0, 0, value);
+    size_t *v = d.call.number;
+
+    v[COLUMNS] = columns;
+    v[ROWS] = rows;
+    v[STAGE] = (size_t)stage;
+    return d;
+}
+
+/* As many rows as columns, from (at, at) on. */
+static void above_example(const char *name, int64_t value, size_t at, size_t columns, int64_t stage, uint64_t above)
+{
+    draft d = stage_on(value, columns, columns, stage);
+
+    begin(name);
+    d.call.number[AT_X] = d.call.number[AT_Y] = at;
+    expect(&d, 0, 0, above, 0);
+}
+
+static void level_example(const char *name, int64_t level, int64_t stage, uint64_t above)
+{
+    draft d = stage_on(level, 3, 3, stage);
+    int64_t *lattice = d.call.slice[LATTICE].at;
+    size_t at;
+
+    begin(name);
+    for (at = 0; at < d.exact[LATTICE]; at++)
+        lattice[at] = level;
+    expect(&d, 0, 0, above, 0);
+}
+
+/* Faults put right one by one: 1, 2, 8, 4, then 6 of the stage and of the last control value, then 5 twice, and then accepted. */
+static void above_refusals(void)
+{
+    draft d = stage_on(36, 4, 4, -LIMIT - 1);
+    size_t *v = d.call.number;
+    int64_t *lattice = d.call.slice[LATTICE].at;
+
+    begin("the refusals of a stage, in their order");
+    v[M] = 0;
+    v[UNIT] = 24;
+    v[STEP] = MOST_STEP + 1;
+    d.call.slice[LATTICE].length = 15;
+    lattice[15] = LIMIT + 1;
+    expect(&d, 1, 0, 0, 0);
+    v[M] = 1;
+    expect(&d, 2, 0, 0, 0);
+    v[UNIT] = 16;
+    expect(&d, 8, 0, 0, 0);
+    v[STEP] = 0;
+    expect(&d, 4, 0, 0, 0);
+    d.call.slice[LATTICE].length = 16;
+    expect(&d, 6, 0, 0, 0);
+    v[STAGE] = (size_t)-LIMIT;
+    expect(&d, 6, 15, 0, 0);
+    lattice[15] = 0;
+    expect(&d, 5, 3, 0, 0);                     /* though the first node stands above, as all do */
+    v[COLUMNS] = 3;
+    expect(&d, 5, 9, 0, 0);
+    v[ROWS] = 3;
+    expect(&d, 0, 0, 1, 0);
+}
+
+/* No columns: the first node would be outside, but there is none. The stage and the lattice are still asked. */
+static void empty_rectangle(void)
+{
+    draft d = stage_on(36, 0, 4, -LIMIT);
+    int64_t *lattice = d.call.slice[LATTICE].at;
+
+    begin("ground above a stage in an empty rectangle");
+    d.call.number[AT_X] = d.call.number[AT_Y] = 17;
+    expect(&d, 0, 0, 0, 0);
+    lattice[0] = LIMIT + 1;
+    expect(&d, 6, 0, 0, 0);
+    d.call.number[STAGE] = (size_t)(LIMIT + 1);
+    expect(&d, 6, 0, 0, 0);
+    lattice[0] = 0;
+    expect(&d, 6, 0, 0, 0);
+}
+
+static void above_examples(void)
+{
+    above_example("E1's 16 is above 15", 36, 0, 3, 15, 1);
+    above_example("it is not above 16, though the control value of 36 is", 36, 0, 3, 16, 0);
+    above_example("E2's 1 is not above 1", 36, 16, 1, 1, 0);
+    above_example("it is above 0", 36, 16, 1, 0, 1);
+    above_example("a height of 1/36 is 0, and not above 0", 1, 16, 1, 0, 0);
+    above_example("ground at the datum is above -1", 0, 0, 3, -1, 1);
+    level_example("level ground at the stage", 9, 9, 0);
+    level_example("level ground a micrometre above it", 9, 8, 1);
+    level_example("the highest ground there is, at the highest stage", LIMIT, LIMIT, 0);
+    level_example("the lowest, at the lowest", -LIMIT, -LIMIT, 0);
+    above_refusals();
+    empty_rectangle();
+}
+
 /* ---- storages: heights in one row ---- */
 
 static draft row_of_heights(const int64_t *heights, size_t columns, int64_t stage, size_t side)
@@ -547,6 +649,7 @@ size_t run_examples(void)
     lattice_examples();
     slope_examples();
     offender_examples();
+    above_examples();
     storage_examples();
     file_examples();
     return examples;

@@ -11,6 +11,7 @@
 
 #define LIMIT INT64_C(4000000000)       /* the range's end */
 #define MOST_NODES 8193                 /* columns or rows */
+#define MOST_STEP 8192
 
 /* Most cases are small, so that many run; a few are larger, or as large as the header allows. */
 typedef enum { SMALL, MEDIUM, LARGEST } size_class;

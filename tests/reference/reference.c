@@ -1,11 +1,11 @@
 /*
- * A second implementation of document 01 and of document 02's jobs 1, 3, 4, 5 and 6, written
- * from their text: its author had document 01 and the interface reference.h, the later author
- * of the slopes that job's text too, and this file as it stood, and the authors of refusals 13
- * and 14, of the base, of the finer default step and of the pond storage documents 01 and 02,
- * the interface, this file and README.md as they stood. None had the definitions, nor the
- * library's code, nor any paper that explains them. README.md says how they read what the text
- * leaves open.
+ * A second implementation of document 01 and of document 02's jobs 1 and 3 to 7, written from
+ * their text: its author had document 01 and the interface reference.h, the later author of the
+ * slopes that job's text too, and this file as it stood, and the authors of refusals 13 and 14,
+ * of the base, of the finer default step, of the pond storage and of the ground above a stage
+ * documents 01 and 02, the interface, this file and README.md as they stood. None had the
+ * definitions, nor the library's code, nor any paper that explains them. README.md says how they
+ * read what the text leaves open.
  *
  * Compile with
  *     gcc -std=c99 -Wall -Wextra -pedantic -O3 -ffp-contract=off
@@ -593,6 +593,12 @@ ref_cells ref_fit(size_t m0, size_t n0, size_t h,
 
 /* ---- Rasters ---- */
 
+/* "Step 0 now stands for 8", any other for itself. */
+static size_t positions_apart(size_t step)
+{
+    return step == 0 ? DEFAULT_STEP : step;
+}
+
 /* Nodes on one axis, from start on, before the first outside; there may be more than wanted. */
 static size_t nodes_inside(size_t start, size_t step, size_t edge)
 {
@@ -605,6 +611,39 @@ static size_t first_node_outside(size_t across, size_t down, size_t columns, siz
     if (down > 0 && across < columns)   /* already in the first row */
         return across;
     return (down < rows ? down : rows) * columns;
+}
+
+/* Refusals 1, 2 and 8, and 4 for the lattice, of any call on a rectangle of nodes; 0 for none. */
+static uint64_t check_rectangle(size_t m, size_t n, unsigned shift, size_t lattice_len,
+                                size_t step, size_t columns, size_t rows)
+{
+    if (!cells_allowed(m, n, MAX_CELLS))
+        return 1;
+    if (shift == 0)
+        return 2;
+    if (step > MAX_STEP || columns > MAX_NODES || rows > MAX_NODES)
+        return 8;
+    if (lattice_len < lattice_places(m, n))
+        return 4;
+    return 0;
+}
+
+/* Then "6 covers the lattice first, then 5", of every node before a height is taken. */
+static verdict check_nodes(size_t m, size_t n, unsigned shift, const int64_t *lattice,
+                           size_t x0, size_t y0, size_t step, size_t columns, size_t rows)
+{
+    size_t places = lattice_places(m, n), nodes = columns * rows;
+    size_t bad = first_out_of_range(lattice, places);
+    if (bad < places)
+        return (verdict){ 6, bad };
+    if (nodes == 0)                 /* no node is outside, wherever x0 and y0 are */
+        return (verdict){ 0, 0 };
+    size_t apart = positions_apart(step);
+    bad = first_node_outside(nodes_inside(x0, apart, m << shift), nodes_inside(y0, apart, n << shift),
+                             columns, rows);
+    if (bad < nodes)
+        return (verdict){ 5, bad };
+    return (verdict){ 0, 0 };
 }
 
 /* Each node's height by itself, row by row. */
@@ -626,28 +665,63 @@ ref_count ref_raster(size_t m, size_t n, size_t unit, const int64_t *lattice, si
                      int64_t *output, size_t output_len)
 {
     unsigned shift = shift_of_unit(unit);
-    if (!cells_allowed(m, n, MAX_CELLS))
-        return (ref_count){ .number = 1 };
-    if (shift == 0)
-        return (ref_count){ .number = 2 };
-    if (step > MAX_STEP || columns > MAX_NODES || rows > MAX_NODES)
-        return (ref_count){ .number = 8 };
-    size_t places = lattice_places(m, n), nodes = columns * rows;
-    if (lattice_len < places || output_len < nodes)
+    uint64_t number = check_rectangle(m, n, shift, lattice_len, step, columns, rows);
+    if (number != 0)
+        return (ref_count){ .number = number };
+    size_t nodes = columns * rows;
+    if (output_len < nodes)
         return (ref_count){ .number = 4 };
-    size_t bad = first_out_of_range(lattice, places);
-    if (bad < places)
-        return (ref_count){ .number = 6, .place = bad };
-    if (nodes == 0)                 /* no node is outside, wherever x0 and y0 are */
-        return (ref_count){ .count = 0 };
-    if (step == 0)
-        step = DEFAULT_STEP;
-    bad = first_node_outside(nodes_inside(x0, step, m << shift), nodes_inside(y0, step, n << shift),
-                             columns, rows);
-    if (bad < nodes)
-        return (ref_count){ .number = 5, .place = bad };
-    write_raster(m, n, shift, lattice, x0, y0, step, columns, rows, output);
+    verdict bad = check_nodes(m, n, shift, lattice, x0, y0, step, columns, rows);
+    if (bad.number != 0)
+        return (ref_count){ .number = bad.number, .place = bad.place };
+    if (nodes > 0)                  /* "No columns or no rows writes nothing" */
+        write_raster(m, n, shift, lattice, x0, y0, positions_apart(step), columns, rows, output);
     return (ref_count){ .count = nodes };
+}
+
+/* ---- The ground above a stage ---- */
+
+/*
+ * "The walk stops at the first node found above". A height at the stage is not above it: the job may pass over
+ * a cell whose control values are "at or below the stage". Here no cell is passed over. Numerators are not
+ * negative and add up to 6U^3, so no row and then no height of such a cell rounds to more than the stage, and
+ * working its nodes out finds none above.
+ */
+static int any_node_above(size_t m, size_t n, unsigned shift, const int64_t *lattice,
+                          size_t x0, size_t y0, size_t step, size_t columns, size_t rows, int64_t stage)
+{
+    for (size_t r = 0; r < rows; r++) {
+        axis_place y = place_on_axis(y0 + r * step, n, shift);
+        for (size_t c = 0; c < columns; c++) {
+            axis_place x = place_on_axis(x0 + c * step, m, shift);
+            if (height_in_cell(lattice, m + 3, shift, &x, &y) > stage)
+                return 1;
+        }
+    }
+    return 0;
+}
+
+/*
+ * "A stage out of range is 6 with place 0, before the lattice; the raster's other checks hold": 1, 2, 8, 4 for the
+ * lattice alone, as no output is lent, the stage's 6, the lattice's 6, then 5. They come before the walk, as the full
+ * raster would be refused for a node outside whatever stands above in a node before it.
+ */
+ref_above ref_any_above(size_t m, size_t n, size_t unit, const int64_t *lattice, size_t lattice_len,
+                        size_t x0, size_t y0, size_t step, size_t columns, size_t rows, int64_t stage)
+{
+    unsigned shift = shift_of_unit(unit);
+    uint64_t number = check_rectangle(m, n, shift, lattice_len, step, columns, rows);
+    if (number != 0)
+        return (ref_above){ .number = number };
+    if (!in_range(stage))
+        return (ref_above){ .number = 6, .place = 0 };
+    verdict bad = check_nodes(m, n, shift, lattice, x0, y0, step, columns, rows);
+    if (bad.number != 0)
+        return (ref_above){ .number = bad.number, .place = bad.place };
+    if (columns == 0 || rows == 0)  /* "An empty rectangle is no" */
+        return (ref_above){ .above = 0 };
+    int above = any_node_above(m, n, shift, lattice, x0, y0, positions_apart(step), columns, rows, stage);
+    return (ref_above){ .above = (uint64_t)above };
 }
 
 /* ---- Pond storage ---- */

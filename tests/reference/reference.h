@@ -1,8 +1,8 @@
 /*
  * A second implementation of the ground lattice of document 01, of the slopes of
  * document 02's first job, of the refusals 13 and 14 of its third, of the base of its
- * fourth, of the finer default raster of its fifth and of the pond storage of its sixth, in plain C99,
- * written from their text.
+ * fourth, of the finer default raster of its fifth, of the pond storage of its sixth and of
+ * the ground above a stage of its seventh, in plain C99, written from their text.
  *
  * Every call checks its arguments itself, refuses as the documents say and then
  * leaves the slices as they say. Any argument may have any value; a
@@ -23,6 +23,7 @@ typedef struct { uint64_t number, place; int64_t along_x, along_y; } ref_slope;
 typedef struct { uint64_t number, place, count; } ref_count;
 typedef struct { uint64_t number, place, m0, n0, h, points; } ref_header;
 typedef struct { uint64_t number, place, litres; } ref_storage;
+typedef struct { uint64_t number, place, above; } ref_above;
 
 /* near(v/d) for d of at least 1, at any v; document 01 has no other divisors, and they give 0. */
 int64_t ref_near(int64_t v, int64_t d);
@@ -46,6 +47,13 @@ ref_cells ref_refine(size_t m, size_t n, const int64_t *lattice, size_t lattice_
 ref_count ref_raster(size_t m, size_t n, size_t unit, const int64_t *lattice, size_t lattice_len,
                      size_t x0, size_t y0, size_t step, size_t columns, size_t rows,
                      int64_t *output, size_t output_len);
+
+/*
+ * Whether any ground stands above a stage, of document 02's job 7: above is 1 for yes and 0 for no. The nodes are those of a
+ * raster with the same x0, y0, step, columns and rows. No output is lent, and nothing is written.
+ */
+ref_above ref_any_above(size_t m, size_t n, size_t unit, const int64_t *lattice, size_t lattice_len,
+                        size_t x0, size_t y0, size_t step, size_t columns, size_t rows, int64_t stage);
 
 /*
  * Pond storage, of document 02's job 6: the litres that a raster of heights, columns by rows, stores at a stage, with a node

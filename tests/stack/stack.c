@@ -53,6 +53,19 @@ static size_t rasters(void)
                          sizeof raster / sizeof *raster).number;
 }
 
+/* The stage at the raster's greatest height: the walk goes to its end, and a yes would count as a refusal. */
+static size_t any_above(void)
+{
+    int64_t stage = raster[0];
+    curlew_above a;
+    size_t i;
+
+    for (i = 1; i < sizeof raster / sizeof *raster; i++)
+        stage = raster[i] > stage ? raster[i] : stage;
+    a = curlew_any_above(CELLS, CELLS, 16, lattice, sizeof lattice / sizeof *lattice, 0, 0, 8, SIDE, SIDE, stage);
+    return a.number + a.above;
+}
+
 static size_t storage_at(void)
 {
     return curlew_storage_at(SIDE, SIDE, raster, sizeof raster / sizeof *raster, 4000000000, 100).number;
@@ -81,9 +94,9 @@ static size_t read_points(void)
 /* In an order in which each finds what it reads. */
 static const struct { const char *name; size_t (*run)(void); } calls[] = {
     { "curlew_fit", fit }, { "curlew_height_at", height_at }, { "curlew_slope_at", slope_at },
-    { "curlew_raster", rasters }, { "curlew_storage_at", storage_at }, { "curlew_write_lattice", write_lattice },
-    { "curlew_read_lattice", read_lattice }, { "curlew_refine", refine }, { "curlew_write_points", write_points },
-    { "curlew_read_points", read_points },
+    { "curlew_raster", rasters }, { "curlew_any_above", any_above }, { "curlew_storage_at", storage_at },
+    { "curlew_write_lattice", write_lattice }, { "curlew_read_lattice", read_lattice }, { "curlew_refine", refine },
+    { "curlew_write_points", write_points }, { "curlew_read_points", read_points },
 };
 
 /* A call in the middle of a thread: its stack's use is measured from this frame on. */

@@ -1,5 +1,5 @@
 
-// Follows the declarations of docs/HOST.md: calls each of the ten functions. m0, n0, h and p all differ, and so do m and n, so that
+// Follows the declarations of docs/HOST.md: calls each of the eleven functions. m0, n0, h and p all differ, and so do m and n, so that
 // two fields or two arguments that changed places are seen.
 fn main() {
     let (m0, n0, h, x, y, z) = (4, 3, 1, [0u16, 100], [0u16, 50], [9i64, -7]);
@@ -32,6 +32,15 @@ fn main() {
     assert_eq!(nodes, Count { number: 0, place: 0, count: 6 });
     assert_eq!(raster[2], height.height);
 
+    let any_above = |lattice: &[i64], stage| unsafe {
+        curlew_any_above(8, 6, 16, lattice.as_ptr(), lattice.len(), 50, 50, 25, 3, 2, stage)
+    };
+    let highest = *raster.iter().max().unwrap();
+    assert_eq!(any_above(&lattice, highest - 1), Above { number: 0, place: 0, above: 1 });
+    assert_eq!(any_above(&lattice, highest), Above { number: 0, place: 0, above: 0 });
+    assert_eq!(any_above(&lattice, 4_000_000_001), Above { number: 6, place: 0, above: 0 });
+    assert_eq!(any_above(&[&lattice[..98], &[i64::MAX]].concat(), highest), Above { number: 6, place: 98, above: 0 });
+
     let storage_at = |stage, side| unsafe { curlew_storage_at(3, 2, raster.as_ptr(), 6, stage, side) };
     // a metre over the first node, 3 by 2 squares of a decimetre: 10 litres each, less what the others stand over it
     let lower: i64 = raster.iter().map(|&z| raster[0] + 1_000_000 - z).sum();
@@ -53,5 +62,5 @@ fn main() {
     };
     assert_eq!(header, Header { number: 0, place: 0, m0, n0, h, points: 2 });
     assert_eq!((x2, y2, z2), (x, y, z));
-    println!("ten functions called");
+    println!("eleven functions called");
 }

@@ -1,5 +1,5 @@
 /*
- * The ten functions of curlewtable.h, answered by the second implementation (tests/reference). With this in place of the
+ * The eleven functions of curlewtable.h, answered by the second implementation (tests/reference). With this in place of the
  * archive the examples can be built where the Rattle kit is not, and what they print over the one can be compared with the other.
  */
 #include "curlewtable.h"
@@ -48,6 +48,14 @@ curlew_count curlew_raster(size_t m, size_t n, size_t unit, const int64_t *latti
                            size_t step, size_t columns, size_t rows, int64_t *output, size_t output_len)
 {
     return count(ref_raster(m, n, unit, lattice, lattice_len, x0, y0, step, columns, rows, output, output_len));
+}
+
+curlew_above curlew_any_above(size_t m, size_t n, size_t unit, const int64_t *lattice, size_t lattice_len, size_t x0, size_t y0,
+                              size_t step, size_t columns, size_t rows, int64_t stage)
+{
+    ref_above answer = ref_any_above(m, n, unit, lattice, lattice_len, x0, y0, step, columns, rows, stage);
+    curlew_above same = { answer.number, answer.place, answer.above };
+    return same;
 }
 
 curlew_storage curlew_storage_at(size_t columns, size_t rows, const int64_t *heights, size_t heights_len, int64_t stage, size_t side)

@@ -1,5 +1,6 @@
 /*
- * The vectors that are calls of the library: heights, slopes, refinements, rasters, storages and fits, run on either implementation.
+ * The vectors that are calls of the library: heights, slopes, refinements, rasters, ground above a stage, storages and fits, run on
+ * either implementation.
  */
 #include "lines.h"
 
@@ -52,28 +53,36 @@ static int same_answer(answer got, list expected, size_t fields, size_t results)
     return memcmp(&wanted, &got, sizeof got) == 0;
 }
 
-/* m n U x y : control values : answer, with so many fields */
-static int position_line(const char *text, runner *run, function f, size_t fields)
+/* so many numbers : control values : answer, with so many fields; nothing is written */
+static int lattice_line(const char *text, runner *run, function f, size_t head, size_t fields)
 {
     numbers line = read_numbers(text);
     call c = call_of(f, line.list[0]);
     int agrees;
 
-    check_line(&line, text, 3, 5);
+    check_line(&line, text, 3, head);
     lend(&c, LATTICE, line.list[1].values, line.list[1].count);
     agrees = same_answer(run(&c), line.list[2], fields, 0);
     free_numbers(&line);
     return agrees;
 }
 
+/* m n U x y : control values : answer */
 static int height_line(const char *text, runner *run)
 {
-    return position_line(text, run, HEIGHT_AT, 1);
+    return lattice_line(text, run, HEIGHT_AT, 5, 1);
 }
 
+/* m n U x y : control values : answer */
 static int slope_line(const char *text, runner *run)
 {
-    return position_line(text, run, SLOPE_AT, 2);
+    return lattice_line(text, run, SLOPE_AT, 5, 2);
+}
+
+/* m n U x0 y0 step columns rows stage : control values : answer */
+static int above_line(const char *text, runner *run)
+{
+    return lattice_line(text, run, ANY_ABOVE, 9, 1);
 }
 
 /* m n : control values : new control values; all are accepted */
@@ -230,6 +239,7 @@ size_t run_calls(const char *folder, runner *run)
     differ += run_file(folder, "slope.txt", slope_line, run);
     differ += run_file(folder, "refine.txt", refine_line, run);
     differ += run_file(folder, "raster.txt", raster_line, run);
+    differ += run_file(folder, "above.txt", above_line, run);
     differ += run_file(folder, "storage.txt", storage_line, run);
     differ += run_file(folder, "fit.txt", fit_line, run);
     return differ;

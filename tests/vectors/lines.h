@@ -37,7 +37,10 @@ typedef int line_check(const char *line, runner *run);
 /* Checks every line of folder/name and prints how many agree and how many differ; returns how many differ. */
 size_t run_file(const char *folder, const char *name, line_check *agrees, runner *run);
 
-/* Checks height.txt, slope.txt, refine.txt, raster.txt, storage.txt and fit.txt on the runner; returns how many lines differ. */
+/*
+ * Checks height.txt, slope.txt, refine.txt, raster.txt, above.txt, storage.txt and fit.txt on the runner; returns how many lines
+ * differ.
+ */
 size_t run_calls(const char *folder, runner *run);
 
 #endif

@@ -54,6 +54,12 @@ pub ≤ℤ-antisym : {a b : ℤ} → a ≤ℤ b → b ≤ℤ a → a ≡ b
 pub <ℤ-suc : (a b : ℤ) → (a <ℤ (b +ℤ pos 1)) ↔ (a ≤ℤ b)
 <ℤ-suc a b = rw (split a, split b) (simp whole (omega arith))
 
+pub suc-≤ℤ : (a b : ℤ) → ((a +ℤ pos 1) ≤ℤ b) ↔ (a <ℤ b)
+suc-≤ℤ a b = rw (split a, split b) (simp whole (omega arith))
+
+pub ≤ℤ-sum : {a b c d : ℤ} → a ≤ℤ b → c ≤ℤ d → (a +ℤ c) ≤ℤ (b +ℤ d)
+≤ℤ-sum {a} {b} {c} {d} = rw (split a, split b, split c, split d) (simp whole (omega arith))
+
 pub ≤ℤ-or-<ℤ : (a b : ℤ) → (a ≤ℤ b) ⊎ (b <ℤ a)
 ≤ℤ-or-<ℤ a b = go (ltZ b a) ltZ-yes ltZ-no
   where
@@ -64,10 +70,14 @@ pub ≤ℤ-or-<ℤ : (a b : ℤ) → (a ≤ℤ b) ⊎ (b <ℤ a)
 pub ≡-or-<ℤ : {a b : ℤ} → a ≤ℤ b → (a ≡ b) ⊎ (a <ℤ b)
 ≡-or-<ℤ {a} {b} h = elim (≤ℤ-or-<ℤ b a) [ inl k ↦ inl (≤ℤ-antisym h k) | inr k ↦ inr k ]
 
--- ---- multiplication by a natural number
+-- ---- multiplication by a number that is not negative
 
 pub ≤ℤ-scale : (d : ℕ) {a b : ℤ} → a ≤ℤ b → (pos d *ℤ a) ≤ℤ (pos d *ℤ b)
 ≤ℤ-scale d {a} {b} = rw (split a, split b) (simp whole (λ h. omega (arith, mul-le-mul-left d h)))
+
+pub ≤ℤ-product : (w : ℤ) {a b : ℤ} → pos 0 ≤ℤ w → a ≤ℤ b → (w *ℤ a) ≤ℤ (w *ℤ b)
+≤ℤ-product (pos d) h k = ≤ℤ-scale d k
+≤ℤ-product (negsuc d) h k = absurd (h .le)
 
 pub <ℤ-cancel : (d : ℕ) (a b : ℤ) → (pos d *ℤ a) <ℤ (pos d *ℤ b) → a <ℤ b
 <ℤ-cancel d a b = rw (split a, split b) (simp whole (λ h. lt-of-mul-lt-mul-left d (omega arith)))

@@ -2,12 +2,14 @@
 ghost use mathlib.Core.Path.{_≡_};
 ghost use Rattle.rules.specs.Fit.{shape, survey};
 ghost use Rattle.rules.specs.Calls as calls;
+ghost use Rattle.rules.specs.Above as rule;
 ghost use Rattle.rules.specs.Storage as pond;
 ghost use Rattle.rules.specs.Demand3.{CloseEverywhere};
 ghost use Rattle.rules.specs.LatticeFile as latticeFile;
 ghost use Rattle.rules.specs.PointFile as pointFile;
 ghost use Rattle.storage.specs.Sampled.{Sampled, sampledAnswer};
-ghost use Rattle.fields.specs.Fields.{handed, inFields, cellsFields, heightFields, slopeFields, countFields, headerFields, storageFields};
+ghost use Rattle.fields.specs.Fields.{handed, inFields, cellsFields, heightFields, slopeFields, countFields, headerFields, aboveFields, storageFields};
+use fields::AboveAnswer;
 use fields::CellsAnswer;
 use fields::CountAnswer;
 use fields::HeaderAnswer;
@@ -90,6 +92,24 @@ pub extern "C" fn curlew_raster(
     ensures { λ r. ⌜ handed r (now (output .exit)) ≡ inFields countFields (calls.rasterCall m n unit (now (lattice .entry)) (calls.nodes x0 y0 step columns rows) (now (output .entry))) ⌝ }
 {
     fields::count(raster::raster(m, n, unit, lattice, x0, y0, step, columns, rows, output))
+}
+
+#[no_mangle]
+pub extern "C" fn curlew_any_above(
+    m: usize,
+    n: usize,
+    unit: usize,
+    lattice: &[i64],
+    x0: usize,
+    y0: usize,
+    step: usize,
+    columns: usize,
+    rows: usize,
+    stage: i64,
+) -> AboveAnswer
+    ensures { λ r. ⌜ r ≡ aboveFields (rule.aboveAnswer m n unit (now (lattice .entry)) (calls.nodes x0 y0 step columns rows) stage) ⌝ }
+{
+    fields::above(above::any_above(m, n, unit, lattice, x0, y0, step, columns, rows, stage))
 }
 
 // Of the heights that an accepted raster left none is refused: only the side and the stage can be.

@@ -1,4 +1,5 @@
 -- The fields that C is handed for each answer of the rules: number 0 for an acceptance, and values of 0 for a refusal.
+use mathlib.Core.Bool.{Bool, cond}
 use Prim.Native.Nat.{ℕ}
 use lib.IntN.{ℤ, pos}
 use Rattle.rules.specs.Answers as rule
@@ -10,6 +11,7 @@ use Rattle.fields.specs.declared.HeightAnswer.{HeightAnswer}
 use Rattle.fields.specs.declared.SlopeAnswer.{SlopeAnswer}
 use Rattle.fields.specs.declared.CountAnswer.{CountAnswer}
 use Rattle.fields.specs.declared.HeaderAnswer.{HeaderAnswer}
+use Rattle.fields.specs.declared.AboveAnswer.{AboveAnswer}
 use Rattle.fields.specs.declared.StorageAnswer.{StorageAnswer}
 
 -- the fields of an answer, and the slices as the call leaves them
@@ -43,6 +45,11 @@ abbrev pub headerFields : rule.Answer pointFile.Header → HeaderAnswer
 headerFields (accepted a) =
     record { number = 0; place = 0; m0 = a .shape .m0; n0 = a .shape .n0; h = a .shape .h; points = a .points }
 headerFields (refused r) = record { number = rule.number r; place = rule.place r; m0 = 0; n0 = 0; h = 0; points = 0 }
+
+-- a yes is 1 and a no is 0
+abbrev pub aboveFields : rule.Answer Bool → AboveAnswer
+aboveFields (accepted b) = record { number = 0; place = 0; above = cond b 1 0 }
+aboveFields (refused r) = record { number = rule.number r; place = rule.place r; above = 0 }
 
 abbrev pub storageFields : rule.Answer ℕ → StorageAnswer
 storageFields (accepted v) = record { number = 0; place = 0; litres = v }

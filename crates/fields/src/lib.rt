@@ -6,8 +6,10 @@ ghost use Rattle.answers.specs.CountTold as countTold;
 ghost use Rattle.heights.specs.Reading as reading;
 ghost use Rattle.slopes.specs.Sloping as sloped;
 ghost use Rattle.point_records.specs.Read as pointsRead;
+ghost use Rattle.above.specs.Told as inspected;
 ghost use Rattle.storage.specs.Told as stored;
-ghost use Rattle.fields.specs.Fields.{cellsFields, heightFields, slopeFields, countFields, headerFields, storageFields};
+ghost use Rattle.fields.specs.Fields.{cellsFields, heightFields, slopeFields, countFields, headerFields, aboveFields, storageFields};
+use above::Inspected;
 use answers::CellsTold;
 use answers::CountTold;
 use heights::Reading;
@@ -53,6 +55,13 @@ pub struct HeaderAnswer {
     pub n0: usize,
     pub h: usize,
     pub points: usize,
+}
+
+#[repr(C)]
+pub struct AboveAnswer {
+    pub number: usize,
+    pub place: usize,
+    pub above: usize,
 }
 
 #[repr(C)]
@@ -153,6 +162,28 @@ pub fn header(answer: PointsRead) -> HeaderAnswer
             n0: 0,
             h: 0,
             points: 0,
+        },
+    }
+}
+
+pub fn above(answer: Inspected) -> AboveAnswer
+    ensures { λ r. ⌜ r ≡ aboveFields (inspected.told answer) ⌝ }
+{
+    match answer {
+        Inspected::Yes => AboveAnswer {
+            number: 0,
+            place: 0,
+            above: 1,
+        },
+        Inspected::No => AboveAnswer {
+            number: 0,
+            place: 0,
+            above: 0,
+        },
+        Inspected::Refused(r) => AboveAnswer {
+            place: answers::place(r),
+            number: answers::number(r),
+            above: 0,
         },
     }
 }

@@ -13,9 +13,8 @@ use lib.ListN.{length, getD}
 use mir.Facts.{and-yes}
 use Rattle.algebra.specs.Table.{tabulate, over, length-tabulate, getD-tabulate, length-over, getD-over}
 use Rattle.rules.specs.Grid.{limit, inside, controls, control}
-use Rattle.rules.specs.Surface.{height}
 use Rattle.rules.specs.Answers.{require, short, position, size, _then_, accepted, Outcome, outcome}
-use Rattle.rules.specs.Calls.{Nodes, defaultStep, nodes, cellsCheck, unitCheck, latticeCheck, nodeX, nodeY, countsCheck, sizeCheck, nodeCheck, nodesCheck, heightCheck, rasterCheck, rasterCall}
+use Rattle.rules.specs.Calls.{Nodes, defaultStep, nodes, cellsCheck, unitCheck, latticeCheck, nodeX, nodeY, nodeHeight, countsCheck, sizeCheck, nodeCheck, nodesCheck, heightCheck, rasterCheck, rasterCall}
 use Rattle.rules.specs.Laws.Checks.{required, require-met, then-both, then-rest, firstOf-none, call-unrefused, call-value, call-after}
 use Rattle.rules.specs.Laws.Surface.{height-within}
 use Rattle.rules.specs.Laws.Raster.{rasterWhere, given-raster, given-default}
@@ -65,7 +64,7 @@ module _ (m n U : ℕ) (l : List ℤ) (g : Nodes) (d : List ℤ) where
       (require-met on (position 0) (required on (position q) (firstOf-none (g .across * g .down) (nodeCheck (U * m) (U * n) g) (p .inside-all) q k)))
 
   abbrev heightAt : ℕ → ℤ
-  heightAt i = height U m n (control m l) (nodeX g i) (nodeY g i)
+  heightAt = nodeHeight m n U l g
 
   -- an accepted raster of q nodes, and the slice that it leaves
   module _ (r : CountTold) (after : List ℤ) (rules : outcome (told r) after ≡ rasterCall m n U l g d) (q : ℕ) (is : told r ≡ accepted q) where
@@ -93,7 +92,7 @@ module _ (m n U : ℕ) (l : List ℤ) (g : Nodes) (d : List ℤ) where
         rw (written, length-over (tabulate q heightAt) d (rw (length-tabulate q heightAt) fits)) fits
 
     -- entry i of the slice is the height at node i
-    pub entry-height : (i : ℕ) → i < q → getD after i (pos 0) ≡ height U m n (control m l) (nodeX g i) (nodeY g i)
+    pub entry-height : (i : ℕ) → i < q → getD after i (pos 0) ≡ nodeHeight m n U l g i
     entry-height i h =
         ap (λ v. getD v i (pos 0)) written ∙ getD-over (tabulate q heightAt) d i (pos 0) (rw (length-tabulate q heightAt) h) ∙ getD-tabulate q heightAt i (pos 0) h
 

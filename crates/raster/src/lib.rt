@@ -1,6 +1,6 @@
 // Rasters: the heights of columns × rows nodes, row by row, worked in strips of 64 columns.
 ghost use mathlib.Core.Path.{_≡_};
-ghost use Prim.Native.Nat.{_*_, _<_};
+ghost use Prim.Native.Nat.{_*_, _^_, _<_};
 ghost use mathlib.Core.List.{List};
 ghost use lib.IntN.{ℤ};
 ghost use lib.ListN.{length};
@@ -9,7 +9,7 @@ ghost use Rattle.rules.specs.Answers.{outcome};
 ghost use Rattle.rules.specs.Calls as calls;
 ghost use Rattle.checks.specs.Ready.{Tells};
 ghost use Rattle.answers.specs.CountTold.{told};
-ghost use Rattle.raster.specs.Samplable.{Samplable, nodeHeight};
+ghost use Rattle.raster.specs.Samplable.{Samplable};
 use answers::CountTold;
 use answers::Refusal;
 use answers::Verdict;
@@ -30,7 +30,7 @@ fn raster_within(
     output: &mut [i64],
 )
     requires { ⌜ Samplable m n e (now lattice) (calls.nodesAt x0 y0 step columns rows) (length (now output)) ⌝ }
-    ensures { λ _. ⌜ now (output .exit) ≡ over (tabulate (columns * rows) (nodeHeight m n e (now (lattice .entry)) (calls.nodesAt x0 y0 step columns rows))) (now (output .entry)) ⌝ }
+    ensures { λ _. ⌜ now (output .exit) ≡ over (tabulate (columns * rows) (calls.nodeHeight m n (2 ^ e) (now (lattice .entry)) (calls.nodesAt x0 y0 step columns rows))) (now (output .entry)) ⌝ }
 {
     if rows == 0 {
         return;

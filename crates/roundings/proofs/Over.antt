@@ -10,7 +10,7 @@ use Rattle.rules.specs.Laws.Rounding.{floor-floor, near-even}
 use Rattle.roundings.proofs.Powers.{cubed}
 
 -- 6U³ as the code has it
-denominator-power : (e : ℕ) → denominator (2 ^ e) ≡ 2 * (3 * 2 ^ (3 * e))
+pub denominator-power : (e : ℕ) → denominator (2 ^ e) ≡ 2 * (3 * 2 ^ (3 * e))
 unfolding denominator
 denominator-power e = rw (cubed e) (omega arith)
 

@@ -1,8 +1,10 @@
 // near over any divisor; and over those that the surface and its slopes have, without a general division: a power of two, which 2U³ is for U = 2^e, by
 // a shift, and 6U³ = 3·2^(3e+1) by a shift and a division by 3.
 ghost use mathlib.Core.Path.{_≡_};
+ghost use mathlib.Core.Logic.{_↔_};
 ghost use Prim.Native.Nat.{_^_, _≤_};
-ghost use lib.IntN.{natAbs};
+ghost use lib.IntN.{ℤ, natAbs};
+ghost use lib.Signed.{_<ℤ_};
 ghost use Rattle.rules.specs.Rounding.{floor, near};
 ghost use Rattle.rules.specs.Surface.{denominator};
 ghost use Rattle.rules.specs.Slope.{slopeDenominator};
@@ -65,6 +67,15 @@ pub fn near_over_tested(v: i64, e: u32) -> i64
 {
     let s = 3 * e;
     third_tested((v + (3 << s)) >> (s + 1))
+}
+
+// The greatest v for which near(v / 6U³) is not above z: a test of v spares the rounding.
+pub fn most_under(z: i64, e: u32) -> i64
+    requires { ⌜ (natAbs z ≤ 4_000_000_000) × (e ≤ 9) ⌝ }
+    ensures { λ r. ⌜ ((v : ℤ) → (z <ℤ near v (denominator (2 ^ e))) ↔ (r <ℤ v)) ⌝ }
+{
+    let half = 3 << (3 * e);
+    2 * half * z + (half - 1)
 }
 
 // near(v / 2U³)

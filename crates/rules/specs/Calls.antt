@@ -1,5 +1,5 @@
 -- The calls of documents 01 and 02 on lent slices: each one's checks in their order, and then its answer and what its slices hold afterwards. Definitions only.
--- Files have theirs in LatticeFile and PointFile, the program in Program, pond storage in Storage.
+-- Files have theirs in LatticeFile and PointFile, the program in Program, pond storage in Storage, the ground above a stage in Above.
 use Prim.Native.Nat.{ℕ, zero, suc, _+_, _*_, _/_, _%_}
 use mathlib.Core.Bool.{_&&_, _||_, cond}
 use mathlib.Core.Option.{none, some}
@@ -48,6 +48,10 @@ countsCheck across down = require (leb across 8_193 && leb down 8_193) size
 -- 6, over a lattice: the first control value out of range
 unfoldable pub latticeCheck : ℕ → ℕ → List ℤ → Check
 latticeCheck m n lattice = rangeCheck (controls m n) lattice range
+
+-- 6: a stage out of range, with place 0
+unfoldable pub stageCheck : ℤ → Check
+stageCheck stage = require (inRange stage) (range 0)
 
 -- "5 before 6 in a point": point i, on m by n cells of U positions
 unfoldable pub pointCheck : ℕ → ℕ → ℕ → ℕ → Point → Check
@@ -131,6 +135,10 @@ nodeX g q = g .x0 + g .step * (q % g .across)
 unfoldable pub nodeY : Nodes → ℕ → ℕ
 nodeY g q = g .y0 + g .step * (q / g .across)
 
+-- the height at node q
+abbrev pub nodeHeight : ℕ → ℕ → ℕ → List ℤ → Nodes → ℕ → ℤ
+nodeHeight m n U lattice g q = height U m n (control m lattice) (nodeX g q) (nodeY g q)
+
 -- 8: "step above 8,192, or columns or rows above 8,193"
 unfoldable pub sizeCheck : ℕ → ℕ → ℕ → Check
 sizeCheck step across down = require (leb step 8_192) size then countsCheck across down
@@ -155,7 +163,7 @@ rasterCheck m n U lattice g output =
 unfoldable pub rasterCall : ℕ → ℕ → ℕ → List ℤ → Nodes → List ℤ → Outcome ℕ (List ℤ)
 rasterCall m n U lattice g output =
     let count = g .across * g .down in
-    call (rasterCheck m n U lattice g output) count (over (tabulate count (λ q. height U m n (control m lattice) (nodeX g q) (nodeY g q))) output) output
+    call (rasterCheck m n U lattice g output) count (over (tabulate count (nodeHeight m n U lattice g)) output) output
 
 -- ---- fit
 

@@ -1,21 +1,23 @@
 -- "Table of checked examples" of document 01: E1 to E8 and the three near examples, with slopes that tell the order of their roundings, bases that tell
--- near from floor, what a raster's step 0 stands for, and storages with the order of their refusals, as one computed table.
+-- near from floor, what a raster's step 0 stands for, storages, and the ground above a stage, both with the order of their refusals, as one computed table.
 use Prim.Native.Nat.{ℕ, zero, suc, _+_, _*_, _/_, _%_}
 use mathlib.Core.Bool.{Bool, true, false, _&&_, cond}
 use mathlib.Core.Option.{none, some}
-use mathlib.Core.List.{List, [], _∷_}
+use mathlib.Core.List.{List, [], _∷_, _++_}
 use lib.Dec.{T, eqb}
 use lib.IntN.{ℤ, pos, negsuc, negℤ}
+use lib.ListN.{replicate}
 use Rattle.algebra.specs.Difference.{posPart}
 use Rattle.rules.specs.Rounding.{floor, near}
-use Rattle.rules.specs.Grid.{Lattice, inRange, within}
+use Rattle.rules.specs.Grid.{Lattice, inRange, within, controls, control}
 use Rattle.rules.specs.Surface.{square, cube, numerator, denominator, cell, offset, weighted, along, height}
 use Rattle.rules.specs.Slope.{slopeNumerator, slopeDenominator, slopeAlong, slopeX, slopeY}
 use Rattle.rules.specs.Refinement.{masked, finer, finer2, refined}
 use Rattle.rules.specs.Fit.{total, nearMean, base}
-use Rattle.rules.specs.Answers.{number, place, Check, require, _then_, firstOf, rangeCheck}
-use Rattle.rules.specs.Calls.{defaultStep, stepOf, nodes, nodeX, nodeY, countsCheck}
-use Rattle.rules.specs.Storage.{depth, depths, litres, storage, sideCheck, pondCheck, stageCheck, heightsCheck, storageCheck}
+use Rattle.rules.specs.Answers.{number, place, Check, require, _then_, firstOf, rangeCheck, Answer, accepted, refused, answer}
+use Rattle.rules.specs.Calls.{defaultStep, stepOf, nodes, nodeX, nodeY, cellsCheck, unitCheck, countsCheck, latticeCheck, stageCheck, sizeCheck, nodeCheck, nodesCheck}
+use Rattle.rules.specs.Storage.{depth, depths, litres, storage, sideCheck, pondCheck, heightsCheck, storageCheck}
+use Rattle.rules.specs.Above.{anyOf, above, anyAbove, aboveCheck, aboveAnswer}
 
 -- "one control value set, others 0": v in column s and row t, which are the indices (s - 1, t - 1)
 unfoldable pub single : ℕ → ℕ → ℤ → Lattice
@@ -60,6 +62,18 @@ refusalOf (some r) = pos (1_000 * number r + place r)
 
 abbrev tooHigh : ℤ
 tooHigh = pos 4_000_000_001
+
+-- "Lattice 1 by 1", as stored: level ground, and a peak of the last control value
+abbrev level : List ℤ
+level = replicate 16 (pos 9)
+
+abbrev peak : ℤ → List ℤ
+peak v = replicate 15 (pos 0) ++ (v ∷ [])
+
+-- whether ground stands above a stage: 1 for yes, 0 for no, or the refusal
+unfoldable pub aboveOf : Answer Bool → ℤ
+aboveOf (accepted b) = pos (cond b 1 0)
+aboveOf (refused r) = refusalOf (some r)
 
 unfoldable pub table : List Line
 table =
@@ -117,9 +131,24 @@ table =
     ∷ (refusalOf (storageCheck 1 1 (tooHigh ∷ []) tooHigh 100) is pos 6_000)
     ∷ (refusalOf (storageCheck 1 2 (pos 0 ∷ tooHigh ∷ []) (pos 0) 1) is pos 6_002)
     ∷ (refusalOf (storageCheck 1 1 (pos 0 ∷ tooHigh ∷ []) (pos 0) 1) is pos 0)
+    -- "Does any ground stand above a stage": level ground at 9, with the stage at 8 and at 9; the last node at 1 and all others at 0, with the stage at 0 and
+    -- at 1; "An empty rectangle is no"
+    ∷ (aboveOf (aboveAnswer 1 1 16 level (nodes 0 0 0 3 3) (pos 8)) is pos 1)
+    ∷ (aboveOf (aboveAnswer 1 1 16 level (nodes 0 0 0 3 3) (pos 9)) is pos 0)
+    ∷ (aboveOf (aboveAnswer 1 1 16 (peak (pos 36)) (nodes 0 0 0 3 3) (pos 0)) is pos 1)
+    ∷ (aboveOf (aboveAnswer 1 1 16 (peak (pos 36)) (nodes 0 0 0 3 3) (pos 1)) is pos 0)
+    ∷ (aboveOf (aboveAnswer 1 1 16 level (nodes 0 0 0 0 3) (pos 8)) is pos 0)
+    -- its refusals: 1, 2, 8, 4, 6 for the stage, "with place 0, before the lattice", 6 for the lattice, and 5 for a fourth node, though the first stands above
+    ∷ (aboveOf (aboveAnswer 0 1 0 [] (nodes 0 0 8_193 4 1) tooHigh) is pos 1_000)
+    ∷ (aboveOf (aboveAnswer 1 1 0 [] (nodes 0 0 8_193 4 1) tooHigh) is pos 2_000)
+    ∷ (aboveOf (aboveAnswer 1 1 16 [] (nodes 0 0 8_193 4 1) tooHigh) is pos 8_000)
+    ∷ (aboveOf (aboveAnswer 1 1 16 [] (nodes 0 0 0 4 1) tooHigh) is pos 4_000)
+    ∷ (aboveOf (aboveAnswer 1 1 16 (peak tooHigh) (nodes 0 0 0 4 1) tooHigh) is pos 6_000)
+    ∷ (aboveOf (aboveAnswer 1 1 16 (peak tooHigh) (nodes 0 0 0 4 1) (pos 8)) is pos 6_015)
+    ∷ (aboveOf (aboveAnswer 1 1 16 level (nodes 0 0 0 4 1) (pos 8)) is pos 5_003)
     ∷ []
 
 -- the whole table, computed
 pub examples : T (allHold table)
-unfolding table allHold _is_ equal single heightOf refinedAt nonzero floor near square cube numerator denominator cell offset weighted along height masked finer finer2 refined slopeNumerator slopeDenominator slopeAlong slopeX slopeY total nearMean base defaultStep stepOf nodeX nodeY refusalOf posPart depth depths litres storage inRange within require _then_ firstOf rangeCheck countsCheck sideCheck pondCheck stageCheck heightsCheck storageCheck
+unfolding table allHold _is_ equal single heightOf refinedAt nonzero floor near square cube numerator denominator cell offset weighted along height masked finer finer2 refined slopeNumerator slopeDenominator slopeAlong slopeX slopeY total nearMean base defaultStep stepOf nodeX nodeY refusalOf posPart depth depths litres storage inRange within require _then_ firstOf rangeCheck countsCheck sideCheck pondCheck stageCheck heightsCheck storageCheck aboveOf anyOf above anyAbove control controls cellsCheck unitCheck latticeCheck sizeCheck nodeCheck nodesCheck aboveCheck answer aboveAnswer
 examples = tt

@@ -9,6 +9,7 @@ pub mod Slope
 pub mod TwoScale
 pub mod Raster
 pub mod Storage
+pub mod Above
 pub mod Fit
 pub mod Base
 pub mod Levels

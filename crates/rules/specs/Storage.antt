@@ -5,9 +5,9 @@ use lib.Dec.{leb}
 use lib.IntN.{ℤ, pos, _-ℤ_}
 use lib.ListN.{length, getD}
 use Rattle.algebra.specs.Difference.{posPart}
-use Rattle.rules.specs.Grid.{within, inRange}
+use Rattle.rules.specs.Grid.{within}
 use Rattle.rules.specs.Answers.{short, side, range, Check, require, _then_, rangeCheck, Answer, answer}
-use Rattle.rules.specs.Calls.{countsCheck}
+use Rattle.rules.specs.Calls.{countsCheck, stageCheck}
 
 -- "Depth at a node is stage less height where positive, else 0"
 unfoldable pub depth : ℤ → ℤ → ℕ
@@ -36,9 +36,6 @@ unfoldable pub pondCheck : ℕ → ℕ → List ℤ → ℕ → Check
 pondCheck columns rows heights s = countsCheck columns rows then require (leb (columns * rows) (length heights)) short then sideCheck s
 
 -- 6: "the stage as index 0 and then the heights from 1"
-unfoldable pub stageCheck : ℤ → Check
-stageCheck stage = require (inRange stage) (range 0)
-
 unfoldable pub heightsCheck : ℕ → List ℤ → Check
 heightsCheck n heights = rangeCheck n heights (λ i. range (i + 1))
 

@@ -9,7 +9,8 @@ use lib.IntN.{ℤ}
 use lib.Signed.{_≤ℤ_}
 use Rattle.rules.specs.Grid.{within, inRange}
 use Rattle.rules.specs.Answers.{Refusal, side, range, number, place, accepted, refused}
-use Rattle.rules.specs.Storage.{storage, sideCheck, stageCheck, storageCheck, storageAnswer}
+use Rattle.rules.specs.Calls.{stageCheck}
+use Rattle.rules.specs.Storage.{storage, sideCheck, storageCheck, storageAnswer}
 use Rattle.rules.specs.Laws.Checks.{require-refusal, then-refusal, answer-none, answer-value, answer-refused}
 use Rattle.rules.specs.Laws.Storage.{storage-rises, storage-most}
 use Rattle.storage.specs.Told.{told}

@@ -7,8 +7,8 @@ use lib.Dec.{leb, le→leb}
 use lib.IntN.{ℤ}
 use lib.ListN.{length}
 use Rattle.rules.specs.Answers.{short, range, require, _then_, Answer, accepted, answer, outcome, call}
-use Rattle.rules.specs.Calls.{Nodes, countsCheck, nodes, rasterCheck, rasterCall}
-use Rattle.rules.specs.Storage.{storage, sideCheck, pondCheck, stageCheck, heightsCheck, storageCheck, storageAnswer}
+use Rattle.rules.specs.Calls.{Nodes, countsCheck, nodes, rasterCheck, rasterCall, stageCheck}
+use Rattle.rules.specs.Storage.{storage, sideCheck, pondCheck, heightsCheck, storageCheck, storageAnswer}
 use Rattle.rules.specs.Laws.Checks.{require-met, then-none, then-pass, size-rangeCheck}
 use Rattle.raster.specs.Promises.{many, counted, entries-held, entry-in-range}
 use Rattle.answers.specs.CountTold.{told}

@@ -1,27 +1,19 @@
--- A strip's columns: their positions are on the grid, their cells and numerators are stored, and the sum of a lattice row at a column is read by them.
+-- A strip's columns: their cells and numerators are stored, and the sum of a lattice row at a column is read by them.
 use mathlib.Core.Path.{_≡_, refl, _∙_}
 use mathlib.Core.List.{List}
 use Prim.Native.Nat.{ℕ, _+_, _*_, _^_, _≤_, _<_}
-use native.Mathlib.Nat.{le-trans}
 use native.Mathlib.Decide.{decLt}
 use native.Mathlib.Omega.{arith}
 use lib.IntN.{ℤ, pos, natAbs}
 use lib.ListN.{length, getD, set, length-set}
 use lib.Seq.{getD-set-same, getD-set-other}
 use Rattle.machine.specs.Held.{read, itself}
-use Rattle.rules.specs.Laws.Passed.{edge-fits}
 use Rattle.basis.specs.Weighing.{weightSize, Weighable, lineHeight}
-use Rattle.basis.specs.Sums.{On, Based, on-grid, back, row-asked, line-weight, row-is}
+use Rattle.basis.specs.Sums.{Based, back, row-asked, line-weight, row-is}
 use Rattle.basis.specs.declared.Basis.{Basis}
-use Rattle.strips.specs.Strips.{columnX, StripInside, tapsAt, put, basisBack, Taps, Tapped, columnSum}
+use Rattle.strips.specs.Strips.{columnX, tapsAt, put, basisBack, Taps, Tapped, columnSum}
+use Rattle.strips.specs.Reading.{on-column}
 use Rattle.strips.specs.declared.Strip.{Strip}
-
-module _ {s : Strip} (c : StripInside s) (i : ℕ) (h : i < s .w) where
-  pub column-fits : columnX s i ≤ 512 * 512
-  column-fits = le-trans (c .inside i h) (edge-fits (s .e) (s .m) (c .grid .e-most) (c .grid .m-most))
-
-  pub on-column : On (2 ^ s .e) (s .m) (columnX s i)
-  on-column = on-grid (s .e) (s .m) (columnX s i) (c .grid .e-most) (c .grid .m-some) (c .inside i h)
 
 -- ---- numerators, read back from their bits
 

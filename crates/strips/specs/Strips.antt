@@ -57,10 +57,10 @@ pub record Tapped (s : Strip) (lattice : List ℤ) (cells : List ℕ) (taps : Li
 abbrev pub columnSum : Strip → List ℤ → ℕ → ℕ → ℤ
 columnSum s lattice r i = rowHeight (2 ^ s .e) (s .m) lattice (columnX s i) r
 
--- of the four lattice rows before last, the ring has the sums of those before next
-pub record Ringed (s : Strip) (lattice : List ℤ) (last next : ℕ) (ring : List ℤ) : Type 0 where
+-- of the four lattice rows before last, the ring has the sums of those before next, at columns from to to - 1
+pub record Ringed (s : Strip) (lattice : List ℤ) (from to last next : ℕ) (ring : List ℤ) : Type 0 where
   pub whole : length ring ≡ 256
-  pub sum : (r i : ℕ) → last ≤ r + 4 → r < next → i < s .w → getD ring (r % 4 * 64 + i) (pos 0) ≡ columnSum s lattice r i
+  pub sum : (r i : ℕ) → last ≤ r + 4 → r < next → from ≤ i → i < to → getD ring (r % 4 * 64 + i) (pos 0) ≡ columnSum s lattice r i
 
 -- ---- nodes
 
@@ -68,8 +68,11 @@ pub record Ringed (s : Strip) (lattice : List ℤ) (last next : ℕ) (ring : Lis
 abbrev pub RingInRange : ℕ → ℕ → List ℤ → Type 0
 RingInRange cell i ring = (r : ℕ) → cell ≤ r → r < cell + 4 → natAbs (getD ring (r % 4 * 64 + i) (pos 0)) ≤ 4_000_000_000
 
+unfoldable pub nodeSum : Basis → List ℤ → ℕ → ℕ → ℤ
+nodeSum b ring cell i = weighted (numerators b) (λ r. getD ring (r % 4 * 64 + i) (pos 0)) cell
+
 unfoldable pub nodeAt : ℕ → Basis → List ℤ → ℕ → ℕ → ℤ
-nodeAt e b ring cell i = near (weighted (numerators b) (λ r. getD ring (r % 4 * 64 + i) (pos 0)) cell) (denominator (2 ^ e))
+nodeAt e b ring cell i = near (nodeSum b ring cell i) (denominator (2 ^ e))
 
 -- the height at row j and column c of the raster
 abbrev pub heightAt : Strip → List ℤ → ℕ → ℕ → ℤ
@@ -85,12 +88,12 @@ pub record RowDue (s : Strip) (j next : ℕ) (lattice : List ℤ) (cells : List 
   pub strip : Tapped s lattice cells taps
   pub inside : s .y0 + s .step * j ≤ 2 ^ s .e * s .n
   pub next-most : next ≤ rowCell s j + 4
-  pub ringed : Ringed s lattice next next ring
+  pub ringed : Ringed s lattice 0 (s .w) next next ring
   pub fits : j * s .columns + s .column + s .w ≤ room
 
 pub record RowDone (s : Strip) (j next : ℕ) (lattice ring before after : List ℤ) : Type 0 where
   pub next-is : next ≡ rowCell s j + 4
-  pub ringed : Ringed s lattice next next ring
+  pub ringed : Ringed s lattice 0 (s .w) next next ring
   pub filled : after ≡ laid (j * s .columns + s .column) (tabulate (s .w) (λ i. heightAt s lattice j (s .column + i))) before
 
 -- the rows of a strip are on the grid and have their places

@@ -1,13 +1,13 @@
 // The nodes of a raster, a strip of at most 64 columns at a time. A strip keeps the rounded x sums of the last four lattice rows in a ring, so that a
 // lattice row is summed once for all the raster rows that use it, and a node costs one rounding.
 ghost use mathlib.Core.Path.{_≡_};
-ghost use Prim.Native.Nat.{ℕ, _+_, _*_, _%_, _≤_, _<_, max};
-ghost use lib.IntN.{pos};
+ghost use Prim.Native.Nat.{ℕ, _+_, _-_, _*_, _%_, _≤_, _<_};
+ghost use lib.IntN.{pos, natAbs};
 ghost use lib.ListN.{length, getD};
 ghost use Rattle.algebra.specs.Table.{tabulate, over, laid};
 ghost use Rattle.basis.specs.Weighing.{Grounded, weightSize};
 ghost use Rattle.basis.specs.Sums.{back};
-ghost use Rattle.strips.specs.Strips.{StripInside, tapsAt, put, basisBack, Taps, Tapped, columnSum, Ringed, RingInRange, nodeAt, RowDue, RowDone, Room, heightAt, Striped};
+ghost use Rattle.strips.specs.Strips.{StripInside, tapsAt, put, basisBack, Taps, Tapped, columnSum, Ringed, RingInRange, nodeSum, nodeAt, RowDue, RowDone, Room, heightAt, Striped};
 use basis::Basis;
 
 // w columns of a raster, from column on.
@@ -22,12 +22,6 @@ pub struct Strip {
     pub columns: usize,
     pub column: usize,
     pub w: usize,
-}
-
-fn greater(a: usize, b: usize) -> usize
-    ensures { λ r. ⌜ r ≡ max a b ⌝ }
-{
-    if a < b { b } else { a }
 }
 
 // The numerators of column i, stored.
@@ -46,7 +40,7 @@ fn store_taps(b: Basis, i: usize, taps: &mut [i64; 256])
 }
 
 // Cells and numerators of the strip's columns: four numerators a column.
-fn column_taps(s: Strip, cells: &mut [usize; 64], taps: &mut [i64; 256])
+pub fn column_taps(s: Strip, cells: &mut [usize; 64], taps: &mut [i64; 256])
     requires { ⌜ StripInside s × (length (now cells) ≡ 64) × (length (now taps) ≡ 256) ⌝ }
     ensures { λ _. ⌜ Taps s (s .w) (now (cells .exit)) (now (taps .exit)) ⌝ }
 {
@@ -90,42 +84,46 @@ fn tap_sum(
     basis::line_height(lattice, r * (s.m + 3) + c, 1, b, s.e)
 }
 
-// The ring with lattice row r summed too.
+// The ring with lattice row r summed too, at columns from to to - 1.
 fn row_sums(
     s: Strip,
     lattice: &[i64],
     cells: &[usize; 64],
     taps: &[i64; 256],
     r: usize,
+    from: usize,
+    to: usize,
     ring: &mut [i64; 256],
 )
-    requires { ⌜ Tapped s (now lattice) (now cells) (now taps) × (r < s .n + 3) × (length (now ring) ≡ 256) ⌝ }
-    ensures { λ _. ⌜ now (ring .exit) ≡ laid (r % 4 * 64) (tabulate (s .w) (columnSum s (now (lattice .entry)) r)) (now (ring .entry)) ⌝ }
+    requires { ⌜ Tapped s (now lattice) (now cells) (now taps) × (r < s .n + 3) × (from ≤ to) × (to ≤ s .w) × (length (now ring) ≡ 256) ⌝ }
+    ensures { λ _. ⌜ now (ring .exit) ≡ laid (r % 4 * 64 + from) (tabulate (to - from) (λ k. columnSum s (now (lattice .entry)) r (from + k))) (now (ring .entry)) ⌝ }
 {
     let at = r % 4 * 64;
-    let mut i = 0;
-    while i < s.w {
+    let mut i = from;
+    while i < to {
         ring[at + i] = tap_sum(s, lattice, cells, taps, r, i);
         i += 1;
     }
 }
 
-// The ring with lattice rows next to last - 1 summed too.
-fn advance(
+// The ring with lattice rows next to last - 1 summed too, at columns from to to - 1.
+pub fn advance(
     s: Strip,
     lattice: &[i64],
     cells: &[usize; 64],
     taps: &[i64; 256],
+    from: usize,
+    to: usize,
     next: usize,
     last: usize,
     ring: &mut [i64; 256],
 )
-    requires { ⌜ Tapped s (now lattice) (now cells) (now taps) × (next ≤ last) × (last ≤ s .n + 3) × Ringed s (now lattice) last next (now ring) ⌝ }
-    ensures { λ _. ⌜ Ringed s (now (lattice .entry)) last last (now (ring .exit)) ⌝ }
+    requires { ⌜ Tapped s (now lattice) (now cells) (now taps) × (from ≤ to) × (to ≤ s .w) × (next ≤ last) × (last ≤ s .n + 3) × Ringed s (now lattice) from to last next (now ring) ⌝ }
+    ensures { λ _. ⌜ Ringed s (now (lattice .entry)) from to last last (now (ring .exit)) ⌝ }
 {
     let mut r = next;
     while r < last {
-        row_sums(s, lattice, cells, taps, r, ring);
+        row_sums(s, lattice, cells, taps, r, from, to, ring);
         r += 1;
     }
 }
@@ -138,16 +136,24 @@ fn ring_sum(ring: &[i64; 256], r: usize, i: usize) -> i64
     ring[r % 4 * 64 + i]
 }
 
-// The node of column i, from the ring's sums of the four lattice rows from cell on.
-fn node(ring: &[i64; 256], cell: usize, b: Basis, e: u32, i: usize) -> i64
-    requires { ⌜ (cell ≤ 512) × (e ≤ 9) × (weightSize b ≤ 805_306_368) × (i < 64) × RingInRange cell i (now ring) ⌝ }
-    ensures { λ r. ⌜ r ≡ nodeAt e b (now (ring .entry)) cell i ⌝ }
+// The y sum of the node of column i, from the ring's sums of the four lattice rows from cell on.
+pub fn node_sum(ring: &[i64; 256], cell: usize, b: Basis, i: usize) -> i64
+    requires { ⌜ (cell ≤ 512) × (weightSize b ≤ 805_306_368) × (i < 64) × RingInRange cell i (now ring) ⌝ }
+    ensures { λ r. ⌜ (r ≡ nodeSum b (now (ring .entry)) cell i) × (natAbs r ≤ 3_221_225_472_000_000_000) ⌝ }
 {
     let p0 = ring_sum(ring, cell, i);
     let p1 = ring_sum(ring, cell + 1, i);
     let p2 = ring_sum(ring, cell + 2, i);
     let p3 = ring_sum(ring, cell + 3, i);
-    roundings::near_over_tested(basis::weighed(b, p0, p1, p2, p3), e)
+    basis::weighed(b, p0, p1, p2, p3)
+}
+
+// The node of column i.
+fn node(ring: &[i64; 256], cell: usize, b: Basis, e: u32, i: usize) -> i64
+    requires { ⌜ (cell ≤ 512) × (e ≤ 9) × (weightSize b ≤ 805_306_368) × (i < 64) × RingInRange cell i (now ring) ⌝ }
+    ensures { λ r. ⌜ r ≡ nodeAt e b (now (ring .entry)) cell i ⌝ }
+{
+    roundings::near_over_tested(node_sum(ring, cell, b, i), e)
 }
 
 // w nodes of one raster row.
@@ -178,9 +184,9 @@ fn strip_row(
 {
     let up = basis::locate(s.y0 + s.step * j, s.n, s.e);
     let cell = up.cell;
-    let from = greater(next, cell);
+    let from = machine::greater(next, cell);
     let last = cell + 4;
-    advance(s, lattice, cells, taps, from, last, ring);
+    advance(s, lattice, cells, taps, 0, s.w, from, last, ring);
     let b = basis::basis_of(s.unit, up.offset);
     let start = j * s.columns + s.column;
     let end = start + s.w;

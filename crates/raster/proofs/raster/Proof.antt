@@ -8,18 +8,17 @@ use borrow.Author.Needs.{needs}
 use lib.IntN.{ℤ}
 use Rattle.algebra.specs.Table.{tabulate, over}
 use Rattle.rules.specs.Answers.{accepted, outcome}
-use Rattle.rules.specs.Calls.{Nodes, rasterCheck, rasterCall}
+use Rattle.rules.specs.Calls.{Nodes, nodeHeight, rasterCheck, rasterCall}
 use Rattle.rules.specs.Laws.Checks.{call-refused, call-accepted}
 use Rattle.checks.specs.Passed.{exponent-check, refusal-check}
-use Rattle.raster.specs.Samplable.{nodeHeight}
 use Rattle.raster.proofs.raster.Statement.{statement}
 use Rattle.raster.proofs.raster.Tie as tie
 
 -- behind its checks the raster's heights are over the slice
 fills : (m n U : ℕ) (l : List ℤ) (g : Nodes) (d : List ℤ) (e : ℕ) {out : List ℤ} → U ≡ 2 ^ e → rasterCheck m n U l g d ≡ none
-    → out ≡ over (tabulate (g .across * g .down) (nodeHeight m n e l g)) d
+    → out ≡ over (tabulate (g .across * g .down) (nodeHeight m n (2 ^ e) l g)) d
     → outcome (accepted (g .across * g .down)) out ≡ rasterCall m n U l g d
-unfolding rasterCall nodeHeight
+unfolding rasterCall
 fills m n U l g d e u p q = ap (outcome _) (q ∙ rw u refl) ∙ call-accepted _ _ _ d p
 
 step-of-requires : tie.Need-step-of-requires

@@ -6,7 +6,7 @@ use native.Mathlib.Omega.{arith}
 use borrow.Author.Needs.{needs}
 use Rattle.strips.specs.Strips.{Striped}
 use Rattle.strips.specs.Stripes.{unchanged, strip-more}
-use Rattle.raster.proofs.Within.{gridHeight, strip-inside, strip-room, all-nodes, no-nodes}
+use Rattle.raster.proofs.Within.{gridHeight, raster-strip, strip-room, all-nodes, no-nodes}
 use Rattle.raster.proofs.raster_within.Statement.{statement}
 use Rattle.raster.proofs.raster_within.Tie as tie
 
@@ -38,7 +38,7 @@ whole-strip-requires c κs =
     let s = t .before .before .pre in
     let l = c .before .before .loop-test .taken in
     let w = c .before .lesser .ensures in
-    (strip-inside s (omega arith) _ l w, s .ground, strip-room s (omega arith) _ l w (t .loop .inv .1 .same-length))
+    (raster-strip s (omega arith) _ l w, s .ground, strip-room s (omega arith) _ l w (t .loop .inv .1 .same-length))
 
 add-column : tie.Need-add-column Inv-loop μ-loop
 add-column c = omega (arith, c .before .before .before .lesser .ensures, c .before .before .before .before .before .before .before .fits .columns)

@@ -2,13 +2,15 @@
 -- offset, a sum of any four weights is linear, decided by its four values and bounded by them, and so is the sum along an axis.
 use mathlib.Core.Path.{_≡_, refl, sym, ap, ap₂, _∙_, fun-ext}
 use mathlib.Core.List.{List, [], _∷_}
-use Prim.Native.Nat.{ℕ, zero, suc, _+_, _-_, _*_, _/_, min, _≤_, _<_}
-use native.Mathlib.Nat.{add-sub-of-le, le-trans, mul-le-mul-left, mul-le-mul-right, mul-suc, mul-comm, div-mul-le-self, lt-div-mul-add, mul-div-right}
+use Prim.Native.Nat.{ℕ, zero, suc, _+_, _-_, _*_, _/_, min, _≤_, _<_, zero-le}
+use native.Mathlib.Nat.{add-sub-of-le, le-trans, mul-le-mul-left, mul-le-mul-right, mul-suc, mul-comm, div-mul-le-self, le-div-iff-mul-le, lt-div-mul-add, mul-div-right}
 use native.Mathlib.Decide.{decLt}
 use native.Mathlib.Omega.{arith}
+use lib.Dec.{le→leb}
 use lib.IntN.{ℤ, pos, natAbs, _+ℤ_, _-ℤ_, _*ℤ_, +ℤ-negℤ-cancel, -ℤ-+ℤ-cancel}
+use lib.Signed.{_≤ℤ_, leZ-yes}
 use Rattle.algebra.specs.Solver.{Expr, var, con, _⊞_, _⊠_, _⊟_, neg, solve}
-use Rattle.algebra.specs.Size.{natAbs-sum, natAbs-product}
+use Rattle.algebra.specs.Size.{natAbs-sum, natAbs-product, ≤ℤ-sum, ≤ℤ-product}
 use Rattle.rules.specs.Surface.{square, cube, numerator, denominator, cell, offset, weighted, along}
 
 -- ---- numerators
@@ -88,6 +90,11 @@ module _ (U m x : ℕ) where
       go : Dec (x / U < m) → x - min (x / U) (m - 1) * U ≤ U
       go (yes k) = let e : min (x / U) (m - 1) ≡ x / U = omega arith in rw e (omega (arith, lt-div-mul-add {a = x} u))
       go (no k) = let e : min (x / U) (m - 1) ≡ m - 1 = omega arith in rw e (omega (arith, last-cell U m h))
+
+-- a later position lies in no earlier cell
+pub cell-mono : (U m x y : ℕ) → 0 < U → x ≤ y → cell U m x ≤ cell U m y
+unfolding cell
+cell-mono U m x y u h = omega (arith, le-div-iff-mul-le {k = U} {x = x / U} {y = y} u .1 (le-trans (div-mul-le-self x U) h))
 
 -- the far edge
 pub cell-edge : (U m : ℕ) → 0 < U → cell U m (U * m) ≡ m - 1
@@ -194,9 +201,24 @@ module _ (w : ℕ → ℤ) where
       one : (k s : ℕ) → c ≤ s → s < c + 4 → natAbs (w k *ℤ f s) ≤ natAbs (w k) * B
       one k s h l = rw (natAbs-product (w k) (f s)) (mul-le-mul-left (natAbs (w k)) (b s h l))
 
+  -- where no weight is negative, values of at most B weigh at most as much as B
+  pub weighted-most : ((k : ℕ) → k < 4 → pos 0 ≤ℤ w k) → (f : ℕ → ℤ) (c : ℕ) (B : ℤ) → ((s : ℕ) → c ≤ s → s < c + 4 → f s ≤ℤ B)
+      → weighted w f c ≤ℤ ((w 0 +ℤ w 1 +ℤ w 2 +ℤ w 3) *ℤ B)
+  unfolding weighted
+  weighted-most h f c B b =
+      rw (← weighted-constant B c)
+      (≤ℤ-sum (≤ℤ-sum (≤ℤ-sum (one 0 c (omega arith)) (one 1 (c + 1) (omega arith))) (one 2 (c + 2) (omega arith))) (one 3 (c + 3) (omega arith)))
+    where
+      one : (k s : ℕ) → (k < 4) × (s ≡ c + k) → (w k *ℤ f s) ≤ℤ (w k *ℤ B)
+      one k s i = ≤ℤ-product (w k) (h k (i .0)) (b s (omega arith) (omega arith))
+
 -- ---- the sum along an axis
 
--- no numerator is negative, so their sizes add up to 6U³
+-- no numerator is negative
+pub numerator-nonNeg : (U a : ℕ) → a ≤ U → (k : ℕ) → pos 0 ≤ℤ numerator (pos U) (pos a) k
+numerator-nonNeg U a h k = rw (numerator-weights a (U - a) (add-sub-of-le h) k) (leZ-yes (le→leb 0 (weights a (U - a) k) zero-le))
+
+-- so their sizes add up to 6U³
 pub numerators-size : (U a : ℕ) → a ≤ U → totalSize (numerator (pos U) (pos a)) ≡ denominator U
 numerators-size U a h =
     let e : a + (U - a) ≡ U = add-sub-of-le h in
@@ -234,3 +256,10 @@ module _ (U m x : ℕ) where
   unfolding along
   along-bound u h i f B b =
       rw (← numerators-size U (offset U m x) (offset-within U m x u h i)) (weighted-bound at f (cell U m x) B (λ s l k. b s (omega (arith, cell-below U m x h))))
+
+  -- where the four values of the cell are at most B, the sum is at most that of B
+  pub along-most : 0 < U → 0 < m → x ≤ U * m → (f : ℕ → ℤ) (B : ℤ) → ((s : ℕ) → cell U m x ≤ s → s < cell U m x + 4 → f s ≤ℤ B)
+      → along U m x f ≤ℤ (pos (denominator U) *ℤ B)
+  unfolding along denominator cube
+  along-most u h i f B b =
+      rw (numerators-sum (pos U) (pos (offset U m x))) at (weighted-most at (λ k l. numerator-nonNeg U (offset U m x) (offset-within U m x u h i) k) f (cell U m x) B b)

@@ -12,10 +12,10 @@ use lib.ListN.{length}
 use lib.Pow.{pow-mono}
 use mir.Facts.{and-yes, yes-and}
 use Rattle.algebra.specs.Table.{over}
-use Rattle.rules.specs.Grid.{limit, within, inside, cellsAt, controls}
+use Rattle.rules.specs.Grid.{limit, within, inRange, inside, cellsAt, controls}
 use Rattle.rules.specs.Fit.{Shape, Survey, pointCount, pointAt, differences, fromBase, singleLattice, differenceCheck}
 use Rattle.rules.specs.Answers.{Refusal, Check, cells, levels, lists, position, range, difference, size, accepted, refused}
-use Rattle.rules.specs.Calls.{countsCheck, cellsCheck, hCheck, listsCheck, latticeCheck, pointCheck, pointsCheck, surveyCheck}
+use Rattle.rules.specs.Calls.{countsCheck, cellsCheck, hCheck, listsCheck, stageCheck, latticeCheck, pointCheck, pointsCheck, surveyCheck}
 use Rattle.rules.specs.Calls.{CellCounts, Lent, fitCheck, finest, results, cleared, fitEnd, fitCall}
 use Rattle.rules.specs.Laws.Base.{length-differences}
 use Rattle.rules.specs.Laws.Checks.{required, require-met, within-bounds, bounds-within, then-first, then-rest, then-none, firstOf-none, firstOf-all, AllInRange, inRange-size, size-inRange, rangeCheck-size}
@@ -94,6 +94,14 @@ counts-passed across down e =
     (leb→le across 8_193 (p .0), leb→le down 8_193 (p .1))
 
 -- ---- a lattice
+
+pub stage-passed : (stage : ℤ) → stageCheck stage ≡ none → natAbs stage ≤ limit
+unfolding stageCheck
+stage-passed stage e = inRange-size stage (required (inRange stage) (range 0) e)
+
+pub stage-passes : (stage : ℤ) → natAbs stage ≤ limit → stageCheck stage ≡ none
+unfolding stageCheck
+stage-passes stage h = require-met (inRange stage) (range 0) (size-inRange stage h)
 
 pub lattice-passed : (m n : ℕ) (values : List ℤ) → latticeCheck m n values ≡ none → AllInRange (controls m n) values
 unfolding latticeCheck

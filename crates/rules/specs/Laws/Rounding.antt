@@ -1,6 +1,6 @@
 -- The laws of floor and near, for any divisor d ≥ 1: their bounds, that these fix them, and what follows from near's distance alone.
 use mathlib.Core.Path.{_≡_, refl, sym, ap, subst}
-use mathlib.Core.Logic.{inl, inr}
+use mathlib.Core.Logic.{_↔_, Iff·symm, Iff·trans, inl, inr}
 use Prim.Native.Nat.{ℕ, _+_, _*_, _≤_, _<_, zero-le}
 use native.Mathlib.Nat.{div-add-mod, mod-lt, div-div-eq-div-mul, le-of-mul-le-mul-left}
 use native.Mathlib.Omega.{arith}
@@ -8,7 +8,7 @@ use native.Mathlib.Decide.{decLt}
 use lib.IntN.{ℤ, pos, negsuc, natAbs, _+ℤ_, _-ℤ_, _*ℤ_, +ℤ-idr, +ℤ-invr, *ℤ-comm}
 use lib.Signed.{shrZ, _≤ℤ_, _<ℤ_, ≤ℤ-refl}
 use Rattle.algebra.specs.Difference.{split, whole}
-use Rattle.algebra.specs.Size.{≤ℤ-antisym, ≤ℤ-<ℤ-trans, <ℤ-suc, ≡-or-<ℤ, <ℤ-cancel, natAbs-sum, natAbs-product, same-of-natAbs}
+use Rattle.algebra.specs.Size.{≤ℤ-trans, ≤ℤ-<ℤ-trans, ≤ℤ-antisym, <ℤ-suc, suc-≤ℤ, ≡-or-<ℤ, ≤ℤ-scale, <ℤ-cancel, natAbs-sum, natAbs-product, same-of-natAbs}
 use Rattle.rules.specs.Rounding.{floor, near}
 
 -- ---- floor
@@ -29,15 +29,19 @@ floor-bound (negsuc a) d h = record {
   high = simp whole (omega (arith, div-add-mod a d));
 }
 
--- of two such numbers neither is the larger
-below : (v : ℤ) (d : ℕ) (m n : ℤ) → Floored v d m → Floored v d n → m ≤ℤ n
-below v d m n f g = <ℤ-suc m n .0 (<ℤ-cancel d m (n +ℤ pos 1) (≤ℤ-<ℤ-trans (f .low) (g .high)))
+-- whole numbers with m ≤ v / d < n + 1 have m ≤ n
+below : (v : ℤ) (d : ℕ) (m n : ℤ) → (pos d *ℤ m) ≤ℤ v → v <ℤ (pos d *ℤ (n +ℤ pos 1)) → m ≤ℤ n
+below v d m n l k = <ℤ-suc m n .0 (<ℤ-cancel d m (n +ℤ pos 1) (≤ℤ-<ℤ-trans l k))
+
+-- so the whole numbers that are at most v / d are those up to its floor
+pub below-floor : (v z : ℤ) (d : ℕ) → 0 < d → (z ≤ℤ floor v d) ↔ ((pos d *ℤ z) ≤ℤ v)
+below-floor v z d h = (λ k. ≤ℤ-trans (≤ℤ-scale d k) (f .low), λ k. below v d z (floor v d) k (f .high))
+  where
+    f : Floored v d (floor v d)
+    f = floor-bound v d h
 
 pub floor-unique : (v : ℤ) (d : ℕ) (n : ℤ) → 0 < d → Floored v d n → n ≡ floor v d
-floor-unique v d n h f = ≤ℤ-antisym (below v d n (floor v d) f g) (below v d (floor v d) n g f)
-  where
-    g : Floored v d (floor v d)
-    g = floor-bound v d h
+floor-unique v d n h f = ≤ℤ-antisym (below-floor v n d h .1 (f .low)) (below v d (floor v d) n (floor-bound v d h .low) (f .high))
 
 -- ---- near: its distance, and its tie rule. This section alone knows where an exact half goes
 
@@ -114,6 +118,14 @@ near-even v d h = sym (nearest-unique v (2 * d) n (omega arith) (record { distan
     below : (v n : ℤ) → (v +ℤ pos d) <ℤ (pos (2 * d) *ℤ (n +ℤ pos 1)) → (pos 2 *ℤ v) <ℤ ((pos 2 *ℤ n +ℤ pos 1) *ℤ pos (2 * d))
     below v n = rw (split v, split n) (simp whole (omega arith))
 
+-- so it is above z exactly from v / 2d = z + 1/2 on
+pub near-above : (v z : ℤ) (d : ℕ) → 0 < d → (z <ℤ near v (2 * d)) ↔ ((pos (2 * d) *ℤ z +ℤ pos d) ≤ℤ v)
+near-above v z d h =
+    rw (near-even v d h) (Iff·trans (Iff·symm (suc-≤ℤ z _)) (Iff·trans (below-floor (v +ℤ pos d) (z +ℤ pos 1) (2 * d) (omega arith)) (half v z)))
+  where
+    half : (v z : ℤ) → ((pos (2 * d) *ℤ (z +ℤ pos 1)) ≤ℤ (v +ℤ pos d)) ↔ ((pos (2 * d) *ℤ z +ℤ pos d) ≤ℤ v)
+    half v z = rw (split v, split z) (simp whole (omega arith))
+
 -- ---- what follows from the distance alone, however an exact half is treated
 
 pub near-distance : (v : ℤ) (d : ℕ) → 0 < d → natAbs (pos 2 *ℤ (pos d *ℤ near v d -ℤ v)) ≤ d
@@ -168,6 +180,10 @@ near-exact n d h = rounds-exact (near-rounds d h) n
 
 pub near-exact-right : (n : ℤ) (d : ℕ) → 0 < d → near (n *ℤ pos d) d ≡ n
 near-exact-right n d h = rw (*ℤ-comm n (pos d)) (near-exact n d h)
+
+-- what is at most n units is rounded to at most n
+pub near-most : (v n : ℤ) (d : ℕ) → 0 < d → v ≤ℤ (pos d *ℤ n) → near v d ≤ℤ n
+near-most v n d h l = rw (near-exact n d h) at (near-monotone v (pos d *ℤ n) d h l)
 
 pub near-within : (v : ℤ) (d B : ℕ) → 0 < d → natAbs v ≤ d * B → natAbs (near v d) ≤ B
 near-within v d B h = rounds-within (near-rounds d h) v B

@@ -11,12 +11,12 @@ use lib.ListN.{length, getD}
 use lib.Signed.{_≤ℤ_}
 use Rattle.algebra.specs.Difference.{split, whole, posPart-⊝}
 use Rattle.algebra.specs.Size.{div-rises, product-div}
-use Rattle.rules.specs.Grid.{limit, inRange, within}
+use Rattle.rules.specs.Grid.{limit, within}
 use Rattle.rules.specs.Answers.{short, side, range, require}
-use Rattle.rules.specs.Calls.{countsCheck}
-use Rattle.rules.specs.Storage.{depth, depths, litres, storage, sideCheck, pondCheck, stageCheck, heightsCheck, storageCheck}
-use Rattle.rules.specs.Laws.Checks.{required, within-bounds, then-both, AllInRange, inRange-size, rangeCheck-size, Part}
-use Rattle.rules.specs.Laws.Passed.{counts-passed}
+use Rattle.rules.specs.Calls.{countsCheck, stageCheck}
+use Rattle.rules.specs.Storage.{depth, depths, litres, storage, sideCheck, pondCheck, heightsCheck, storageCheck}
+use Rattle.rules.specs.Laws.Checks.{required, within-bounds, then-both, AllInRange, rangeCheck-size, Part}
+use Rattle.rules.specs.Laws.Passed.{counts-passed, stage-passed}
 
 -- ---- "A higher stage never stores less"
 
@@ -70,10 +70,6 @@ pond-passed columns rows heights s e =
     let b = then-both (require room short) _ (a .1) in
     let counts = counts-passed columns rows (a .0) in
     (mul-le-mul (counts .0) (counts .1), leb→le (columns * rows) (length heights) (required room short (b .0)), within-bounds 1 100 s (required (within 1 100 s) side (b .1)) .1)
-
-pub stage-passed : (stage : ℤ) → stageCheck stage ≡ none → natAbs stage ≤ limit
-unfolding stageCheck
-stage-passed stage e = inRange-size stage (required (inRange stage) (range 0) e)
 
 pub heights-passed : (n : ℕ) (heights : List ℤ) → heightsCheck n heights ≡ none → AllInRange n heights
 unfolding heightsCheck

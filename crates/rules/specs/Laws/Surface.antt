@@ -6,16 +6,17 @@ use Prim.Native.Nat.{ℕ, _+_, _*_, _/_, _%_, _≤_, _<_}
 use native.Mathlib.Nat.{mul-pos, mul-le-mul-left, mul-le-mul-right, mul-assoc, mul-comm, mul-add-div-right, mul-add-mod-self-right, div-eq-of-lt, mod-eq-of-lt, mod-lt, div-lt-iff-lt-mul}
 use native.Mathlib.Omega.{arith}
 use lib.IntN.{ℤ, pos, natAbs, _+ℤ_, _-ℤ_, _*ℤ_}
+use lib.Signed.{_≤ℤ_}
 use lib.ListN.{length, getD, drop, List·getD-append}
 use Rattle.algebra.specs.Solver.{var, con, _⊞_, _⊠_, _⊟_, solve}
 use Rattle.algebra.specs.Size.{natAbs-sum, natAbs-product}
 use Rattle.algebra.specs.Table.{over, length-tabulate, getD-tabulate}
 use Rattle.rules.specs.Rounding.{near}
 use Rattle.rules.specs.Grid.{Lattice, limit, controls, control, store}
-use Rattle.rules.specs.Surface.{denominator, along, surface, height}
+use Rattle.rules.specs.Surface.{denominator, cell, along, surface, height}
 use Rattle.rules.specs.Refinement.{finer2, refined}
-use Rattle.rules.specs.Laws.Rounding.{near-distance, near-within}
-use Rattle.rules.specs.Laws.Basis.{along-sum, along-scale, along-constant, along-off, along-reads, along-bound}
+use Rattle.rules.specs.Laws.Rounding.{near-distance, near-most, near-within}
+use Rattle.rules.specs.Laws.Basis.{along-sum, along-scale, along-constant, along-off, along-reads, along-bound, along-most}
 use Rattle.rules.specs.Laws.TwoScale.{finer2-size}
 use Rattle.rules.specs.Laws.Checks.{AllInRange}
 
@@ -106,6 +107,17 @@ height-within U m n x y i f B b =
     near-within _ F B h
     (along-bound U n y (i .unit) (i .up) (i .y-inside) (λ t. near (along U m x (λ s. f s t)) F) B
     (λ t l. near-within (along U m x (λ s. f s t)) F B h (row-bound U m n x y i f B b t l)))
+
+-- where the sixteen control values of a cell are at most B, so is every height in the cell, however an exact half is treated
+pub height-most : (U m n x y : ℕ) → Inside U m n x y → (f : Lattice) (B : ℤ)
+    → ((s t : ℕ) → cell U m x ≤ s → s < cell U m x + 4 → cell U n y ≤ t → t < cell U n y + 4 → f s t ≤ℤ B) → height U m n f x y ≤ℤ B
+unfolding height
+height-most U m n x y i f B b =
+    let F = denominator U in
+    let h : 0 < F = denominator-positive U (i .unit) in
+    near-most _ B F h
+    (along-most U n y (i .unit) (i .up) (i .y-inside) (λ t. near (along U m x (λ s. f s t)) F) B
+    (λ t l k. near-most (along U m x (λ s. f s t)) B F h (along-most U m x (i .unit) (i .across) (i .x-inside) (λ s. f s t) B (λ s p q. b s t p q l k))))
 
 -- ---- how far the height is from the surface
 

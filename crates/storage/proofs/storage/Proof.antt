@@ -11,9 +11,11 @@ use lib.IntN.{ℤ}
 use Rattle.machine.specs.Tests.{plain}
 use Rattle.rules.specs.Grid.{inRange}
 use Rattle.rules.specs.Answers.{Refusal, range, require, Answer, accepted, refused, answer}
-use Rattle.rules.specs.Storage.{depths, litres, storage, pondCheck, stageCheck, heightsCheck, storageCheck, storageAnswer}
+use Rattle.rules.specs.Calls.{stageCheck}
+use Rattle.rules.specs.Storage.{depths, litres, storage, pondCheck, heightsCheck, storageCheck, storageAnswer}
 use Rattle.rules.specs.Laws.Checks.{then-none, then-some, answer-none, answer-value, answer-refused, none-answer, some-answer}
-use Rattle.rules.specs.Laws.Storage.{sum-most, pond-passed, stage-passed, heights-passed}
+use Rattle.rules.specs.Laws.Passed.{stage-passed}
+use Rattle.rules.specs.Laws.Storage.{sum-most, pond-passed, heights-passed}
 use Rattle.answers.specs.Cause.{found}
 use Rattle.storage.specs.Sampled.{Sampled, sampledAnswer, sampled-answer}
 use Rattle.storage.specs.Told.{sumTold}

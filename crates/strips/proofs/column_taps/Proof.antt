@@ -6,8 +6,9 @@ use borrow.Author.Count.{below-none}
 use lib.ListN.{length, length-set}
 use Rattle.basis.specs.Sums.{basis-asked, placed, weight-most}
 use Rattle.strips.specs.Strips.{StripInside, Taps}
+use Rattle.strips.specs.Reading.{column-fits, on-column}
 use Rattle.strips.specs.declared.Strip.{Strip}
-use Rattle.strips.proofs.Columns.{column-fits, on-column, tapped-more}
+use Rattle.strips.proofs.Columns.{tapped-more}
 use Rattle.strips.proofs.column_taps.Statement.{statement}
 use Rattle.strips.proofs.column_taps.Tie as tie
 

@@ -4,8 +4,9 @@ use Prim.Native.Nat.{ℕ, _+_, _-_, _≤_}
 use native.Mathlib.Nat.{not-suc-le-zero}
 use native.Mathlib.Omega.{arith}
 use Rattle.strips.specs.Strips.{Ringed, rowCell, heightAt, Striped}
-use Rattle.strips.proofs.Row.{next-more, none-ringed, row-room}
+use Rattle.strips.specs.Reading.{none-ringed, next-more}
 use Rattle.strips.specs.Stripes.{unchanged, row-more}
+use Rattle.strips.proofs.Row.{row-room}
 use Rattle.strips.proofs.strip_rows.Statement.{statement}
 use Rattle.strips.proofs.strip_rows.Tie as tie
 
@@ -13,14 +14,14 @@ abbrev Inv-loop : tie.InvT-loop
 Inv-loop s rows lattice cells taps ring₀ output₀ next₀ j₀ ring output next j =
     (j ≤ rows)
     × ((k : ℕ) → j ≤ k → next ≤ rowCell s k + 4)
-    × Ringed s lattice next next ring
+    × Ringed s lattice 0 (s .w) next next ring
     × Striped (s .columns) j (s .column) (s .column + s .w) (heightAt s lattice) output₀ output
 
 abbrev μ-loop : tie.MeasureT-loop
 μ-loop s rows lattice cells taps ring₀ output₀ next₀ j₀ ring output next j = rows - j
 
 loop-holds : tie.Need-loop-holds Inv-loop μ-loop
-loop-holds c = (omega arith, λ k h. omega arith, none-ringed _ _ _ (c .pre .2), unchanged _ _ _ _ _ _ (λ j c h k n. not-suc-le-zero h))
+loop-holds c = (omega arith, λ k h. omega arith, none-ringed (c .pre .2), unchanged _ _ _ _ _ _ (λ j c h k n. not-suc-le-zero h))
 
 strip-row-requires : tie.Need-strip-row-requires Inv-loop μ-loop
 strip-row-requires c κs =

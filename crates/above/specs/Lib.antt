@@ -1,0 +1,3 @@
+pub mod Inspectable
+pub mod Told
+pub mod Promises
