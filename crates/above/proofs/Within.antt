@@ -1,22 +1,24 @@
 -- The nodes of a rectangle as those of its strips: what strips have shown of rows and columns tells the answer.
 use mathlib.Core.Path.{_≡_, sym, ap, ap₂, _∙_}
+use mathlib.Core.Logic.{_↔_}
 use mathlib.Core.Bool.{true, false}
 use mathlib.Core.List.{List}
-use Prim.Native.Nat.{ℕ, _+_, _-_, _*_, _/_, _%_, _^_, _≤_, _<_, min}
+use Prim.Native.Nat.{ℕ, _+_, _-_, _*_, _/_, _%_, _^_, _≤_, _<_}
 use native.Mathlib.Nat.{mul-zero, mul-comm, mul-le-mul-right, mul-add-div-right, mul-add-mod-self-right, mod-eq-of-lt, mod-lt, div-eq-of-lt, div-lt-iff-lt-mul}
 use native.Mathlib.Decide.{decLt}
 use native.Mathlib.Omega.{arith}
 use lib.IntN.{ℤ}
 use lib.Signed.{_≤ℤ_, _<ℤ_}
 use Rattle.rules.specs.Grid.{control}
-use Rattle.rules.specs.Surface.{height}
+use Rattle.rules.specs.Rounding.{near}
+use Rattle.rules.specs.Surface.{denominator, height}
 use Rattle.rules.specs.Calls.{Nodes, nodesAt, nodeX, nodeY, nodeHeight}
 use Rattle.rules.specs.Above.{above, anyOf, anyAbove}
 use Rattle.rules.specs.Laws.Above.{anyOf-some, anyOf-none, above-yes, above-no}
-use Rattle.strips.specs.Strips.{StripInside}
-use Rattle.strips.specs.Reading.{strip, strip-inside}
+use Rattle.strips.specs.Strips.{stripAt, StripInside}
+use Rattle.strips.specs.Reading.{strip-inside, strip-width}
 use Rattle.strips.specs.declared.Strip.{Strip}
-use Rattle.bands.specs.Bands.{RowsInside, NodeAbove, NodesBelow}
+use Rattle.bands.specs.Bands.{RowsInside, NodeAbove, NodesBelow, Threshold}
 use Rattle.above.specs.Inspectable.{Inspectable}
 
 module _ (m n U : ℕ) (l : List ℤ) (x0 y0 step columns rows : ℕ) (stage : ℤ) where
@@ -62,22 +64,19 @@ module _ (m n U : ℕ) (l : List ℤ) (x0 y0 step columns rows : ℕ) (stage : �
 -- ---- one strip
 
 module _ {m n e : ℕ} {l : List ℤ} {x0 y0 step columns rows : ℕ} {stage : ℤ} (s : Inspectable m n e l (nodesAt x0 y0 step columns rows) stage) (some : 0 < rows)
-    (column : ℕ) {w : ℕ} (starts : column < columns) (wide : w ≡ min (columns - column) 64) where
-  abbrev here : Strip
-  here = strip (s .ground .grid) x0 y0 step (s .inside .along-x some) column starts wide
+    {column : ℕ} {strip : Strip} (is : strip ≡ stripAt m n e x0 y0 step columns column) (starts : column < columns) where
+  pub above-strip : StripInside strip
+  above-strip = strip-inside is (s .ground .grid) (s .inside .along-x some) starts
 
-  pub above-strip : StripInside here
-  above-strip = strip-inside (s .ground .grid) x0 y0 step (s .inside .along-x some) column starts wide
+  pub rows-inside : RowsInside strip rows
+  rows-inside = rw is (record { inside = λ j h. s .inside .along-y (omega arith) j h })
 
-  pub rows-inside : RowsInside here rows
-  rows-inside = record { inside = λ j h. s .inside .along-y (omega arith) j h }
+  pub strip-high : {z : ℤ} → z ≡ stage → NodeAbove strip l z 0 rows 0 (strip .w) → true ≡ anyAbove m n (2 ^ e) l (nodesAt x0 y0 step columns rows) stage
+  strip-high here a =
+      some-above m n (2 ^ e) l x0 y0 step columns rows stage (a .j) (column + a .i) (a .j-b) (omega (arith, strip-width is, a .i-to, starts)) (rw (is, here) at (a .high))
 
-  pub strip-high : {z : ℤ} → z ≡ stage → NodeAbove here l z 0 rows 0 w → true ≡ anyAbove m n (2 ^ e) l (nodesAt x0 y0 step columns rows) stage
-  strip-high is a =
-      some-above m n (2 ^ e) l x0 y0 step columns rows stage (a .j) (column + a .i) (a .j-b) (omega (arith, wide, a .i-to, starts)) (rw is at (a .high))
-
-  pub strip-low : {z : ℤ} → ColumnsBelow m n (2 ^ e) l x0 y0 step columns rows z column → NodesBelow here l z 0 rows 0 w
-      → ColumnsBelow m n (2 ^ e) l x0 y0 step columns rows z (column + w)
+  pub strip-low : {z : ℤ} → ColumnsBelow m n (2 ^ e) l x0 y0 step columns rows z column → NodesBelow strip l z 0 rows 0 (strip .w)
+      → ColumnsBelow m n (2 ^ e) l x0 y0 step columns rows z (column + strip .w)
   strip-low had b =
       record {
         low = λ j c h k.
@@ -86,9 +85,14 @@ module _ {m n e : ℕ} {l : List ℤ} {x0 y0 step columns rows : ℕ} {stage : �
               | no d ↦
                   let i = c - column in
                   let same : column + i ≡ c = omega arith in
-                  rw same at (b .low j i (omega arith) h (omega arith) (omega arith))
+                  rw (is, same) at (b .low j i (omega arith) h (omega arith) (omega arith))
             ];
       }
+
+-- what `most_under` returned, read back, is the strip's threshold
+pub threshold : {m n e x0 y0 step columns column : ℕ} {strip : Strip} {stage most bits : ℤ} → strip ≡ stripAt m n e x0 y0 step columns column → bits ≡ most
+    → ((v : ℤ) → (stage <ℤ near v (denominator (2 ^ e))) ↔ (most <ℤ v)) → Threshold stage (strip .e) bits
+threshold is read t = rw (is, read) (record { from = t })
 
 -- after the last strip, of the stage that the bits stand for
 pub all-below : (m n U : ℕ) (l : List ℤ) (x0 y0 step columns rows : ℕ) {z stage : ℤ} (column : ℕ) → z ≡ stage → columns ≤ column

@@ -9,7 +9,6 @@ ghost use Rattle.above.specs.Told.{told};
 use answers::Refusal;
 use answers::Verdict;
 use checks::Readiness;
-use strips::Strip;
 
 // What is told of a rectangle's ground: yes or no, or the first refusal.
 pub enum Inspected {
@@ -37,27 +36,14 @@ fn above_within(
     if rows == 0 {
         return false;
     }
-    let unit = 1 << e;
     let most = roundings::most_under(stage, e);
     let mut column = 0;
     while column < columns {
-        let w = machine::lesser(columns - column, 64);
-        let s = Strip {
-            m,
-            n,
-            unit,
-            e,
-            x0,
-            y0,
-            step,
-            columns,
-            column,
-            w,
-        };
+        let s = strips::strip_from(m, n, e, x0, y0, step, columns, column);
         if bands::strip_above(s, rows, lattice, stage, most) {
             return true;
         }
-        column += w;
+        column += s.w;
     }
     false
 }

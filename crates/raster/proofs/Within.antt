@@ -11,9 +11,9 @@ use Rattle.rules.specs.Grid.{control}
 use Rattle.rules.specs.Surface.{height}
 use Rattle.rules.specs.Calls.{nodesAt, nodeX, nodeY, nodeHeight}
 use Rattle.raster.specs.Samplable.{Samplable}
-use Rattle.strips.specs.Strips.{StripInside, Room, Striped}
+use Rattle.strips.specs.Strips.{stripAt, StripInside, Room, heightAt, Striped}
 use Rattle.strips.specs.declared.Strip.{Strip}
-use Rattle.strips.specs.Reading.{strip, strip-inside}
+use Rattle.strips.specs.Reading.{strip-inside}
 use Rattle.strips.specs.Stripes.{all-striped}
 
 -- the height at row j and column c
@@ -22,15 +22,17 @@ gridHeight m n e l x0 y0 step j c = height (2 ^ e) m n (control m l) (x0 + step 
 
 module _ {m n e : ℕ} {l : List ℤ} {x0 y0 step columns rows room : ℕ} (s : Samplable m n e l (nodesAt x0 y0 step columns rows) room) where
   module _ (some : 0 < rows) where
-    module _ (column : ℕ) {w : ℕ} (starts : column < columns) (wide : w ≡ min (columns - column) 64) where
-      abbrev here : Strip
-      here = strip (s .ground .grid) x0 y0 step (s .inside .along-x some) column starts wide
+    module _ {column : ℕ} {strip : Strip} (is : strip ≡ stripAt m n e x0 y0 step columns column) (starts : column < columns) where
+      pub raster-strip : StripInside strip
+      raster-strip = strip-inside is (s .ground .grid) (s .inside .along-x some) starts
 
-      pub raster-strip : StripInside here
-      raster-strip = strip-inside (s .ground .grid) x0 y0 step (s .inside .along-x some) column starts wide
+      pub strip-room : {now : ℕ} → now ≡ room → Room strip rows now
+      strip-room e = rw is (record { inside = λ j h. s .inside .along-y (omega arith) j h; fits = rw e (s .fits) })
 
-      pub strip-room : {now : ℕ} → now ≡ room → Room here rows now
-      strip-room e = record { inside = λ j h. s .inside .along-y (omega arith) j h; fits = rw e (s .fits) }
+      -- its part of the raster
+      pub stripe : {before after : List ℤ} → Striped (strip .columns) rows (strip .column) (strip .column + strip .w) (heightAt strip l) before after
+          → Striped columns rows column (column + strip .w) (gridHeight m n e l x0 y0 step) before after
+      stripe had = rw is (rw is at had)
 
   -- the list of all nodes
   pub all-nodes : {before after : List ℤ} → length before ≡ room → Striped columns rows 0 columns (gridHeight m n e l x0 y0 step) before after

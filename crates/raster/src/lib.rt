@@ -14,7 +14,6 @@ use answers::CountTold;
 use answers::Refusal;
 use answers::Verdict;
 use checks::Readiness;
-use strips::Strip;
 
 // The raster of a lattice and of nodes that are known to be in range and inside.
 fn raster_within(
@@ -35,24 +34,11 @@ fn raster_within(
     if rows == 0 {
         return;
     }
-    let unit = 1 << e;
     let mut column = 0;
     while column < columns {
-        let w = machine::lesser(columns - column, 64);
-        let s = Strip {
-            m,
-            n,
-            unit,
-            e,
-            x0,
-            y0,
-            step,
-            columns,
-            column,
-            w,
-        };
+        let s = strips::strip_from(m, n, e, x0, y0, step, columns, column);
         strips::whole_strip(s, rows, lattice, output);
-        column += w;
+        column += s.w;
     }
 }
 

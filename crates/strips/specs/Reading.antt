@@ -1,7 +1,7 @@
 -- How a strip is read: its columns and its rows lie on the grid, and from row to row the ring has the sums that make the heights.
-use mathlib.Core.Path.{_≡_, ap, _∙_}
+use mathlib.Core.Path.{_≡_, refl, ap, _∙_}
 use mathlib.Core.List.{List}
-use Prim.Native.Nat.{ℕ, _+_, _-_, _*_, _%_, _^_, _≤_, _<_, min, max}
+use Prim.Native.Nat.{ℕ, _+_, _-_, _*_, _^_, _≤_, _<_, min, max}
 use native.Mathlib.Nat.{mul-le-mul-left, le-trans, not-suc-le-zero}
 use native.Mathlib.Omega.{arith}
 use lib.IntN.{ℤ}
@@ -12,27 +12,24 @@ use Rattle.rules.specs.Surface.{denominator}
 use Rattle.rules.specs.Laws.Basis.{cell-below, cell-mono, weighted-reads}
 use Rattle.rules.specs.Laws.Passed.{Gridded, edge-fits}
 use Rattle.basis.specs.Weighing.{Weighs, Located, Grounded, numerators, weightSize}
-use Rattle.basis.specs.Sums.{On, Based, on-grid, unit-shifted, placed, weight-most, row-within, height-is}
+use Rattle.basis.specs.Sums.{On, Based, on-grid, placed, weight-most, row-within, height-is}
 use Rattle.basis.specs.declared.Basis.{Basis}
 use Rattle.basis.specs.declared.Spot.{Spot}
-use Rattle.strips.specs.Strips.{columnX, StripInside, Ringed, RingInRange, nodeSum, heightAt, rowCell}
+use Rattle.strips.specs.Strips.{stripAt, columnX, StripInside, Ringed, RingInRange, nodeSum, heightAt, rowCell}
 use Rattle.strips.specs.declared.Strip.{Strip}
 
--- ---- a strip of a raster, as code makes it
+-- ---- a strip of a raster
 
-module _ {m n e : ℕ} (g : Gridded m n e) (x0 y0 step : ℕ) {columns : ℕ} (inside : (c : ℕ) → c < columns → x0 + step * c ≤ 2 ^ e * m)
-    (column : ℕ) {w : ℕ} (starts : column < columns) (wide : w ≡ min (columns - column) 64) where
-  abbrev pub strip : Strip
-  strip = record { m = m; n = n; unit = 1 * 2 ^ e % 2 ^ 64; e = e; x0 = x0; y0 = y0; step = step; columns = columns; column = column; w = w }
+module _ {m n e x0 y0 step columns column : ℕ} {s : Strip} (is : s ≡ stripAt m n e x0 y0 step columns column) where
+  pub strip-inside : Gridded m n e → ((c : ℕ) → c < columns → x0 + step * c ≤ 2 ^ e * m) → column < columns → StripInside s
+  strip-inside g inside starts =
+      rw is (record { grid = g; unit-is = refl; width = omega arith; narrow = omega arith; inside = λ i h. inside (column + i) (omega arith) })
 
-  pub strip-inside : StripInside strip
-  strip-inside = record {
-    grid = g;
-    unit-is = unit-shifted (on-grid e m 0 (g .e-most) (g .m-some) (omega arith));
-    width = omega arith;
-    narrow = omega arith;
-    inside = λ i h. inside (column + i) (omega arith);
-  }
+  pub strip-ground : {l : List ℤ} → Grounded m n e l → Grounded (s .m) (s .n) (s .e) l
+  strip-ground g = rw is g
+
+  pub strip-width : s .w ≡ min (columns - column) 64
+  strip-width = ap (λ (s : Strip). s .w) is
 
 -- ---- a column
 

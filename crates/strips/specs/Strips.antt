@@ -1,7 +1,7 @@
 -- What the contracts of a strip's functions cite: its columns' numerators, the ring of rounded x sums, and the part of a raster that it fills.
 use mathlib.Core.Path.{_≡_}
 use mathlib.Core.List.{List}
-use Prim.Native.Nat.{ℕ, _+_, _*_, _%_, _^_, _≤_, _<_}
+use Prim.Native.Nat.{ℕ, _+_, _-_, _*_, _%_, _^_, _≤_, _<_, min}
 use lib.IntN.{ℤ, pos, natAbs}
 use lib.ListN.{length, getD, set}
 use Rattle.algebra.specs.Table.{tabulate, laid}
@@ -15,6 +15,11 @@ use Rattle.basis.specs.declared.Basis.{Basis}
 use Rattle.strips.specs.declared.Strip.{Strip}
 
 -- ---- a strip's columns
+
+-- the strip that begins with this column
+abbrev pub stripAt : ℕ → ℕ → ℕ → ℕ → ℕ → ℕ → ℕ → ℕ → Strip
+stripAt m n e x0 y0 step columns column =
+    record { m = m; n = n; unit = 2 ^ e; e = e; x0 = x0; y0 = y0; step = step; columns = columns; column = column; w = min (columns - column) 64 }
 
 -- the position of column i
 abbrev pub columnX : Strip → ℕ → ℕ

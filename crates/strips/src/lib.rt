@@ -7,7 +7,7 @@ ghost use lib.ListN.{length, getD};
 ghost use Rattle.algebra.specs.Table.{tabulate, over, laid};
 ghost use Rattle.basis.specs.Weighing.{Grounded, weightSize};
 ghost use Rattle.basis.specs.Sums.{back};
-ghost use Rattle.strips.specs.Strips.{StripInside, tapsAt, put, basisBack, Taps, Tapped, columnSum, Ringed, RingInRange, nodeSum, nodeAt, RowDue, RowDone, Room, heightAt, Striped};
+ghost use Rattle.strips.specs.Strips.{stripAt, StripInside, tapsAt, put, basisBack, Taps, Tapped, columnSum, Ringed, RingInRange, nodeSum, nodeAt, RowDue, RowDone, Room, heightAt, Striped};
 use basis::Basis;
 
 // w columns of a raster, from column on.
@@ -22,6 +22,34 @@ pub struct Strip {
     pub columns: usize,
     pub column: usize,
     pub w: usize,
+}
+
+// The strip that begins with a column of a raster: 64 columns, or what is left of them.
+pub fn strip_from(
+    m: usize,
+    n: usize,
+    e: u32,
+    x0: usize,
+    y0: usize,
+    step: usize,
+    columns: usize,
+    column: usize,
+) -> Strip
+    requires { ⌜ (e ≤ 9) × (column < columns) ⌝ }
+    ensures { λ r. ⌜ r ≡ stripAt m n e x0 y0 step columns column ⌝ }
+{
+    Strip {
+        m,
+        n,
+        unit: 1 << e,
+        e,
+        x0,
+        y0,
+        step,
+        columns,
+        column,
+        w: machine::lesser(columns - column, 64),
+    }
 }
 
 // The numerators of column i, stored.
