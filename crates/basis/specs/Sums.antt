@@ -113,11 +113,15 @@ module _ (f : ℕ → ℤ) (q : ℕ) (ranged : (s : ℕ) → q ≤ s → s < q +
   pub four-small : (natAbs (back v0) ≤ 4_000_000_000) × (natAbs (back v1) ≤ 4_000_000_000) × (natAbs (back v2) ≤ 4_000_000_000) × (natAbs (back v3) ≤ 4_000_000_000)
   four-small = (small 4_000_000_000 tt h0, small 4_000_000_000 tt h1, small 4_000_000_000 tt h2, small 4_000_000_000 tt h3)
 
+  -- their sum
+  pub sum-is : (w : ℕ → ℤ) {s : ℤ} → s ≡ weighted w (four (back v0) (back v1) (back v2) (back v3)) 0 → s ≡ weighted w f q
+  sum-is w e = e ∙ weighted-values w _ f 0 q (h0 .is) (h1 .is) (h2 .is) (h3 .is)
+
   -- and what a rounding over d makes of that, s the sum and z the answer
   pub step-is : (w : ℕ → ℤ) (d : ℕ) {s z : ℤ} → mag s < 2 ^ 63 → s ≡ weighted w (four (back v0) (back v1) (back v2) (back v3)) 0
       → mag z < 2 ^ 63 → z ≡ near (back s) d → back z ≡ near (weighted w f q) d
   step-is w d a e b i =
-      returned b i ∙ ap (λ v. near v d) (returned a e ∙ weighted-values w _ f 0 q (h0 .is) (h1 .is) (h2 .is) (h3 .is))
+      returned b i ∙ ap (λ v. near v d) (returned a (sum-is w e))
 
 -- the weights of a line are no larger than those at the largest U, and its four values are in range
 pub line-weight : {l : List ℤ} {q apart : ℕ} {b : Basis} {e : ℕ} → Weighable l q apart b e → weightSize b ≤ 805_306_368

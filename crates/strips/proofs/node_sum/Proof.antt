@@ -5,10 +5,9 @@ use native.Mathlib.Omega.{arith}
 use borrow.Author.Needs.{needs}
 use lib.IntN.{ℤ, pos}
 use lib.ListN.{getD}
-use Rattle.machine.specs.Held.{Held, itself, read, returned, small}
-use Rattle.rules.specs.Laws.Basis.{weighted-values}
+use Rattle.machine.specs.Held.{itself, read, returned}
 use Rattle.basis.specs.Weighing.{numerators}
-use Rattle.basis.specs.Sums.{back}
+use Rattle.basis.specs.Sums.{back, four-small, sum-is}
 use Rattle.strips.specs.Strips.{nodeSum}
 use Rattle.strips.proofs.node_sum.Statement.{statement}
 use Rattle.strips.proofs.node_sum.Tie as tie
@@ -24,21 +23,20 @@ module _ (c : tie.After-ring-sum4) where
   abbrev value : ℕ → ℤ
   value r = getD (start .args .ring .now) (r % 4 * 64 + start .args .i) (pos 0)
 
-  -- what `weighed` is given of it
-  given : (r : ℕ) {z : ℤ} → cell ≤ r → r < cell + 4 → z ≡ back (value r) → Held (back z) (value r) 4_000_000_000
-  given r h k e = let v = read tt (itself (value r) 4_000_000_000 (start .pre .3 r h k)) in read tt (record { is = e ∙ v .is; size = v .size })
+  value-is : (r : ℕ) {z : ℤ} → cell ≤ r → r < cell + 4 → z ≡ back (value r) → z ≡ value r
+  value-is r h k e = e ∙ read tt (itself (value r) 4_000_000_000 (start .pre .3 r h k)) .is
 
-  sum0 : Held (back (c .before .before .before .ring-sum .result)) (value cell) 4_000_000_000
-  sum0 = given cell (omega arith) (omega arith) (c .before .before .before .ring-sum .ensures)
+  sum0 : c .before .before .before .ring-sum .result ≡ value cell
+  sum0 = value-is cell (omega arith) (omega arith) (c .before .before .before .ring-sum .ensures)
 
-  sum1 : Held (back (c .before .before .ring-sum2 .result)) (value (cell + 1)) 4_000_000_000
-  sum1 = given (cell + 1) (omega arith) (omega arith) (c .before .before .ring-sum2 .ensures)
+  sum1 : c .before .before .ring-sum2 .result ≡ value (cell + 1)
+  sum1 = value-is (cell + 1) (omega arith) (omega arith) (c .before .before .ring-sum2 .ensures)
 
-  sum2 : Held (back (c .before .ring-sum3 .result)) (value (cell + 2)) 4_000_000_000
-  sum2 = given (cell + 2) (omega arith) (omega arith) (c .before .ring-sum3 .ensures)
+  sum2 : c .before .ring-sum3 .result ≡ value (cell + 2)
+  sum2 = value-is (cell + 2) (omega arith) (omega arith) (c .before .ring-sum3 .ensures)
 
-  sum3 : Held (back (c .ring-sum4 .result)) (value (cell + 3)) 4_000_000_000
-  sum3 = given (cell + 3) (omega arith) (omega arith) (c .ring-sum4 .ensures)
+  sum3 : c .ring-sum4 .result ≡ value (cell + 3)
+  sum3 = value-is (cell + 3) (omega arith) (omega arith) (c .ring-sum4 .ensures)
 
 ring-sum-requires : tie.Need-ring-sum-requires
 ring-sum-requires c κs = search needs
@@ -62,14 +60,14 @@ ring-sum-requires-4 : tie.Need-ring-sum-requires-4
 ring-sum-requires-4 c κs = search needs
 
 weighed-requires : tie.Need-weighed-requires
-weighed-requires c κs = (start c .pre .1, (small 4_000_000_000 tt (sum0 c), small 4_000_000_000 tt (sum1 c), small 4_000_000_000 tt (sum2 c), small 4_000_000_000 tt (sum3 c)))
+weighed-requires c κs = (start c .pre .1, four-small (value c) (cell c) (start c .pre .3) (sum0 c) (sum1 c) (sum2 c) (sum3 c))
 
 returns : tie.Need-returns
 unfolding nodeSum
 returns c =
     let d = c .before in
     let plain = returned (c .weighed .ok) refl in
-    (plain ∙ c .weighed .ensures .0 ∙ weighted-values (numerators (start d .args .b)) _ (value d) 0 (cell d) (sum0 d .is) (sum1 d .is) (sum2 d .is) (sum3 d .is), rw plain (c .weighed .ensures .1))
+    (plain ∙ sum-is (value d) (cell d) (start d .pre .3) (sum0 d) (sum1 d) (sum2 d) (sum3 d) (numerators (start d .args .b)) (c .weighed .ensures .0), rw plain (c .weighed .ensures .1))
 
 pub node-sum-spec : {M : Type 1} → statement M
 node-sum-spec =
