@@ -1,13 +1,13 @@
--- What the call promises beyond its equation with the rules: it answers as a full raster of the same nodes would, refusals too; an empty rectangle is no; no is
--- no at every higher stage, and where no control value is above the stage.
+-- What the call promises beyond its equation with the rules: it answers as a full raster of the same nodes would, refusals too; a yes has a node above the stage, and
+-- a no has none; an empty rectangle is no; no is no at every higher stage, and where no control value is above the stage.
 use mathlib.Core.Path.{_≡_, refl, sym, ap, _∙_}
-use mathlib.Core.Bool.{Bool, false}
+use mathlib.Core.Bool.{Bool, true, false}
 use mathlib.Core.Option.{none}
 use mathlib.Core.List.{List}
 use Prim.Native.Nat.{ℕ, _+_, _*_, _≤_, _<_}
 use lib.IntN.{ℤ, pos, natAbs}
 use lib.ListN.{length, getD, replicate, length-replicate}
-use lib.Signed.{_≤ℤ_}
+use lib.Signed.{_≤ℤ_, _<ℤ_}
 use native.Mathlib.Nat.{le-of-eq}
 use Rattle.rules.specs.Grid.{limit, control}
 use Rattle.rules.specs.Answers.{Refusal, accepted, refused, outcome}
@@ -15,7 +15,7 @@ use Rattle.rules.specs.Calls.{Nodes, nodeX, nodeY, nodeHeight, rasterCheck, ras
 use Rattle.rules.specs.Above.{anyOf, above, anyAbove, aboveCheck, aboveAnswer}
 use Rattle.rules.specs.Laws.Checks.{answer-none, answer-value, none-answer, some-answer, call-unrefused, call-refusal}
 use Rattle.rules.specs.Laws.Passed.{stage-passes}
-use Rattle.rules.specs.Laws.Above.{anyOf-same, above-falls, low-ground, stage-checked, raster-check}
+use Rattle.rules.specs.Laws.Above.{anyOf-same, anyOf-found, anyOf-each, yes-above, no-above, above-falls, low-ground, stage-checked, raster-check}
 use Rattle.answers.specs.CountTold as counted
 use Rattle.answers.specs.declared.CountTold.{CountTold}
 use Rattle.heights.specs.Promises.{height-passed}
@@ -53,6 +53,15 @@ module _ (m n U : ℕ) (l : List ℤ) (g : Nodes) where
       value : anyAbove m n U l g stage ≡ b
       unfolding aboveAnswer
       value = answer-value (aboveCheck m n U l g stage) (anyAbove m n U l g stage) b (sym rules ∙ is)
+
+      -- yes exactly if some node stands above: a yes has one, and after a no there is none
+      pub yes-node : b ≡ true → (q : ℕ) × (q < count) × (stage <ℤ nodeHeight m n U l g q)
+      unfolding anyAbove
+      yes-node e = let found = anyOf-found count _ (value ∙ e) in (found .0, found .1, yes-above stage (nodeHeight m n U l g (found .0)) (found .2))
+
+      pub no-node : b ≡ false → (q : ℕ) → q < count → nodeHeight m n U l g q ≤ℤ stage
+      unfolding anyAbove
+      no-node e q h = no-above stage (nodeHeight m n U l g q) (anyOf-each count q _ (value ∙ e) h)
 
       -- "An empty rectangle is no"
       pub empty-no : count ≡ 0 → b ≡ false
