@@ -1,7 +1,7 @@
 -- The walk over a strip's bands: what is known between two bands, and what a band adds to it.
 use mathlib.Core.Path.{_≡_}
 use mathlib.Core.List.{List}
-use Prim.Native.Nat.{ℕ, _+_, _-_, _*_, _^_, _≤_, _<_}
+use Prim.Native.Nat.{ℕ, _+_, _-_, _*_, _%_, _^_, _≤_, _<_}
 use native.Mathlib.Nat.{mul-le-mul-left, mul-le-mul-right, mul-comm, le-trans}
 use native.Mathlib.Decide.{decLt}
 use native.Mathlib.Omega.{arith}
@@ -13,40 +13,53 @@ use Rattle.rules.specs.Grid.{controls, control}
 use Rattle.rules.specs.Laws.Basis.{cell-below, cell-mono}
 use Rattle.rules.specs.Laws.Surface.{height-most}
 use Rattle.basis.specs.Weighing.{Grounded}
-use Rattle.below.specs.Below.{CellsBelow, Clear}
+use Rattle.below.specs.Below.{RowsBelow, Rising, Apart, CellsBelow}
 use Rattle.below.specs.declared.Due.{Due}
-use Rattle.below.specs.declared.Seen.{Seen}
 use Rattle.strips.specs.Strips.{columnX, StripInside, Tapped, Ringed, rowCell, heightAt}
 use Rattle.strips.specs.Reading.{none-ringed}
 use Rattle.strips.specs.declared.Strip.{Strip}
-use Rattle.bands.specs.Bands.{RowsInside, Band, RowsClear, NodeAbove, NodesBelow, Threshold}
+use Rattle.bands.specs.Bands.{RowsInside, Band, NodeAbove, NodesBelow, Threshold}
 use Rattle.bands.specs.declared.Kept.{Kept}
 
 -- ---- the cells of a strip's columns
 
 module _ {s : Strip} {l : List ℤ} {cells : List ℕ} {taps : List ℤ} (t : Tapped s l cells taps) where
-  pub cell-inside : (i : ℕ) → i < s .w → getD cells i 0 < s .m
+  cell-inside : (i : ℕ) → i < s .w → getD cells i 0 < s .m
   cell-inside i h = rw (t .tapped i h .cell-is) (cell-below (2 ^ s .e) (s .m) (columnX s i) (t .columns .grid .m-some))
 
   -- a later column lies in no earlier cell
-  pub cells-rise : (i j : ℕ) → i ≤ j → j < s .w → getD cells i 0 ≤ getD cells j 0
+  cells-rise : (i j : ℕ) → i ≤ j → j < s .w → getD cells i 0 ≤ getD cells j 0
   cells-rise i j h k =
       let l : i < s .w = omega arith in
       let later : s .column + i ≤ s .column + j = omega arith in
       rw (t .tapped i l .cell-is, t .tapped j k .cell-is)
       (cell-mono (2 ^ s .e) (s .m) (columnX s i) (columnX s j) (pow-pos (s .e)) (omega (arith, mul-le-mul-left (s .step) later)))
 
+  pub rising : Rising cells (s .w)
+  rising = record { most = λ i h. omega (arith, cell-inside i h, t .columns .grid .m-most); rise = cells-rise }
+
   -- the lattice's columns that the strip reads
   pub span : 0 < s .w → (getD cells 0 0 ≤ getD cells (s .w - 1) 0 + 4) × (getD cells (s .w - 1) 0 + 4 ≤ s .m + 3)
   span h = let last : s .w - 1 < s .w = omega arith in (omega (arith, cells-rise 0 (s .w - 1) (omega arith) last), omega (arith, cell-inside (s .w - 1) last))
 
-  -- rows that are clear from the first column's cell to the last one's are clear in the cells between
-  pub rows-clear : {stage : ℤ} {seen : Seen} → Clear stage (s .m) l (getD cells 0 0) (getD cells (s .w - 1) 0 + 4) seen → RowsClear stage (s .m) l cells (s .w) seen
-  rows-clear c = record {
-    clear = λ i h. record {
-      low = λ k r a b. c .low k r (omega (arith, a, cells-rise 0 i (omega arith) h)) (omega (arith, b, cells-rise i (s .w - 1) (omega arith) (omega arith)));
-    };
-  }
+  -- what the four lattice rows of cell row k have told of the columns that are not due
+  module _ {stage : ℤ} (k : ℕ) {firsts ends : List ℕ} (rows : RowsBelow stage (s .m) l (getD cells 0 0) (getD cells (s .w - 1) 0 + 4) (k + 4) (k + 4) firsts ends)
+      {from to : ℕ} (apart : Apart cells (s .w) firsts ends from to) where
+    pub cells-before : from ≤ s .w → CellsBelow stage (s .m) l cells k 0 from
+    cells-before w = record {
+      low = λ i h n. record {
+        low = λ c t a b d e.
+            rows .row t (omega arith) e .before c (omega (arith, a, cells-rise 0 i (omega arith) (omega (arith, n, w)))) (omega (arith, b, apart .before i (t % 4) n (omega arith)));
+      };
+    }
+
+    pub cells-behind : CellsBelow stage (s .m) l cells k to (s .w)
+    cells-behind = record {
+      low = λ i h n. record {
+        low = λ c t a b d e.
+            rows .row t (omega arith) e .behind c (omega (arith, a, apart .behind i (t % 4) h n (omega arith))) (omega (arith, b, cells-rise i (s .w - 1) (omega (arith, n)) (omega (arith, n))));
+      };
+    }
 
   -- the four lattice rows of a cell are stored
   pub rows-stored : (k : ℕ) → k < s .n → (k + 4) * (s .m + 3) ≤ length l
@@ -84,38 +97,32 @@ module _ {s : Strip} {l : List ℤ} {stage : ℤ} where
 
 -- ---- from band to band
 
--- before row j: the lattice rows looked at, the ring, and no node above the stage
-pub record Walked (s : Strip) (l : List ℤ) (stage : ℤ) (left right : ℕ) (seen : Seen) (kept : Kept) (ring : List ℤ) (j : ℕ) : Type 0 where
-  pub clear : Clear stage (s .m) l left right seen
-  pub seen-most : (k : ℕ) → j ≤ k → seen .next ≤ rowCell s k + 4
+-- before row j: the lattice rows before `seen` looked at, the ring, and no node above the stage
+pub record Walked (s : Strip) (l : List ℤ) (stage : ℤ) (left right seen : ℕ) (firsts ends : List ℕ) (kept : Kept) (ring : List ℤ) (j : ℕ) : Type 0 where
+  pub rows : RowsBelow stage (s .m) l left right seen seen firsts ends
+  pub seen-most : (k : ℕ) → j ≤ k → seen ≤ rowCell s k + 4
   pub held : Ringed s l (kept .from) (kept .to) (kept .next) (kept .next) ring
-  pub narrow : kept .to ≤ s .w
   pub kept-most : (k : ℕ) → j ≤ k → kept .next ≤ rowCell s k + 4
   pub low : NodesBelow s l stage 0 j 0 (s .w)
 
-pub unwalked : (s : Strip) (l : List ℤ) (stage : ℤ) (left right : ℕ) (ring : List ℤ) → length ring ≡ 256
-    → Walked s l stage left right (record { next = 0; clear = 0 }) (record { from = 0; to = 0; next = 0 }) ring 0
-unwalked s l stage left right ring e = record {
-  clear = record { low = λ p q a b c d. absurd (omega (arith, d)) };
+pub unwalked : (s : Strip) (l : List ℤ) (stage : ℤ) (left right : ℕ) (firsts ends : List ℕ) (ring : List ℤ) → length firsts ≡ 4 → length ends ≡ 4 → length ring ≡ 256
+    → Walked s l stage left right 0 firsts ends (record { from = 0; to = 0; next = 0 }) ring 0
+unwalked s l stage left right firsts ends ring f e r = record {
+  rows = record { four-firsts = f; four-ends = e; row = λ t a b. absurd (omega arith) };
   seen-most = λ k h. omega arith;
-  held = none-ringed e;
-  narrow = omega arith;
+  held = none-ringed r;
   kept-most = λ k h. omega arith;
   low = record { low = λ j i m n f o. absurd (omega (arith, n)) };
 }
-
--- the ring holds at due columns what it holds at more
-pub narrowed : {s : Strip} {l ring : List ℤ} {a b c d last next : ℕ} → c ≤ a → b ≤ d → Ringed s l c d last next ring → Ringed s l a b last next ring
-narrowed h n had = record { whole = had .whole; sum = λ r i x y m o. had .sum r i x y (omega arith) (omega arith) }
 
 pub rows-before : {s : Strip} {end rows : ℕ} → end ≤ rows → RowsInside s rows → RowsInside s end
 rows-before h r = record { inside = λ j l. r .inside j (omega arith) }
 
 -- later rows lie in no earlier cells
-pub next-past : (s : Strip) (j : ℕ) {k next end : ℕ} → k ≡ rowCell s j → next ≡ k + 4 → j ≤ end → (i : ℕ) → end ≤ i → next ≤ rowCell s i + 4
-next-past s j at e h i n =
+pub next-past : (s : Strip) (j : ℕ) {k end : ℕ} → k ≡ rowCell s j → j ≤ end → (i : ℕ) → end ≤ i → k + 4 ≤ rowCell s i + 4
+next-past s j at h i n =
     let later : j ≤ i = omega arith in
-    omega (arith, at, e, cell-mono (2 ^ s .e) (s .n) (s .y0 + s .step * j) (s .y0 + s .step * i) (pow-pos (s .e)) (omega (arith, mul-le-mul-left (s .step) later)))
+    omega (arith, at, cell-mono (2 ^ s .e) (s .n) (s .y0 + s .step * j) (s .y0 + s .step * i) (pow-pos (s .e)) (omega (arith, mul-le-mul-left (s .step) later)))
 
 -- the numbers that bits stand for
 pub threshold-of : {stage most z v : ℤ} {e : ℕ} → z ≡ stage → v ≡ most → Threshold stage e most → Threshold z e v
@@ -126,33 +133,31 @@ pub all-low : {s : Strip} {l : List ℤ} {z stage : ℤ} {j rows : ℕ} → z �
 all-low e h n = record { low = λ j i m k f o. rw e at (n .low j i m (omega arith) f o) }
 
 -- the band of rows j to end - 1, in cell row k
-module _ {s : Strip} {l : List ℤ} {cells : List ℕ} {taps : List ℤ} (t : Tapped s l cells taps) {stage : ℤ} {left right : ℕ} {seen : Seen} {kept : Kept} {ring : List ℤ} {j : ℕ}
-    (had : Walked s l stage left right seen kept ring j) {k end : ℕ} (at : k ≡ rowCell s j) (some : j < end) (band : Band s k j end) (rows : RowsInside s end)
-    {now : Seen} (looked : now .next ≡ k + 4) (clear : Clear stage (s .m) l left right now)
+module _ {s : Strip} {l : List ℤ} {cells : List ℕ} {taps : List ℤ} (t : Tapped s l cells taps) {stage : ℤ} {left right seen : ℕ} {firsts ends : List ℕ} {kept : Kept} {ring : List ℤ} {j : ℕ}
+    (had : Walked s l stage left right seen firsts ends kept ring j) {k end : ℕ} (at : k ≡ rowCell s j) (some : j < end) (band : Band s k j end) (inside : RowsInside s end)
+    {firsts′ ends′ : List ℕ} (looked : RowsBelow stage (s .m) l left right (k + 4) (k + 4) firsts′ ends′)
     {due : Due} (from-most : due .from ≤ s .w) (to-most : due .to ≤ s .w) (before : CellsBelow stage (s .m) l cells k 0 (due .from)) (behind : CellsBelow stage (s .m) l cells k (due .to) (s .w)) where
-  now-most : (i : ℕ) → end ≤ i → now .next ≤ rowCell s i + 4
-  now-most = next-past s j at looked (omega arith)
+  later : (i : ℕ) → end ≤ i → k + 4 ≤ rowCell s i + 4
+  later = next-past s j at (omega arith)
 
   -- none of its columns is due
-  pub passed-over : due .to ≤ due .from → Walked s l stage left right now kept ring end
+  pub passed-over : due .to ≤ due .from → Walked s l stage left right (k + 4) firsts′ ends′ kept ring end
   passed-over none = record {
-    clear = clear;
-    seen-most = now-most;
+    rows = looked;
+    seen-most = later;
     held = had .held;
-    narrow = had .narrow;
     kept-most = λ i h. had .kept-most i (omega arith);
-    low = rows-cover (had .low) (columns-cover none (cells-low t before from-most band rows) (cells-low t behind (omega arith) band rows));
+    low = rows-cover (had .low) (columns-cover none (cells-low t before from-most band inside) (cells-low t behind (omega arith) band inside));
   }
 
   -- those due are worked out, and the ring holds them
-  pub worked-out : NodesBelow s l stage j end (due .from) (due .to) → {wide : Kept} {after : List ℤ} → wide .to ≤ s .w → wide .next ≡ k + 4
-      → Ringed s l (wide .from) (wide .to) (k + 4) (k + 4) after → Walked s l stage left right now wide after end
-  worked-out low most next held = record {
-    clear = clear;
-    seen-most = now-most;
-    held = rw next held;
-    narrow = most;
-    kept-most = next-past s j at next (omega arith);
+  pub worked-out : NodesBelow s l stage j end (due .from) (due .to) → {now : Kept} {after : List ℤ} → now .from ≡ due .from → now .to ≡ due .to → now .next ≡ k + 4
+      → Ringed s l (due .from) (due .to) (k + 4) (k + 4) after → Walked s l stage left right (k + 4) firsts′ ends′ now after end
+  worked-out low f u next held = record {
+    rows = looked;
+    seen-most = later;
+    held = rw (f, u, next) held;
+    kept-most = λ i h. omega (arith, next, later i h);
     low = rows-cover (had .low)
-        (columns-cover (omega arith) (columns-cover (omega arith) (cells-low t before from-most band rows) low) (cells-low t behind (omega arith) band rows));
+        (columns-cover (omega arith) (columns-cover (omega arith) (cells-low t before from-most band inside) low) (cells-low t behind (omega arith) band inside));
   }

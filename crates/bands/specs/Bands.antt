@@ -5,14 +5,11 @@ use mathlib.Core.Bool.{Bool, true, false, true≢false, false≢true}
 use mathlib.Core.List.{List}
 use Prim.Native.Nat.{ℕ, _+_, _*_, _^_, _≤_, _<_}
 use lib.IntN.{ℤ}
-use lib.ListN.{getD}
 use lib.Signed.{_≤ℤ_, _<ℤ_}
 use Rattle.rules.specs.Rounding.{near}
 use Rattle.rules.specs.Surface.{denominator}
 use Rattle.basis.specs.declared.Basis.{Basis}
-use Rattle.below.specs.Below.{Clear}
 use Rattle.below.specs.declared.Due.{Due}
-use Rattle.below.specs.declared.Seen.{Seen}
 use Rattle.strips.specs.Strips.{Ringed, rowCell, nodeSum, heightAt}
 use Rattle.strips.specs.declared.Strip.{Strip}
 
@@ -25,10 +22,6 @@ pub record RowsInside (s : Strip) (rows : ℕ) : Type 0 where
 -- rows start to end - 1 lie in cell row `cell`
 pub record Band (s : Strip) (cell start end : ℕ) : Type 0 where
   pub one : (j : ℕ) → start ≤ j → j < end → rowCell s j ≡ cell
-
--- of the lattice rows that were looked at, the cells of the strip's columns are clear
-pub record RowsClear (stage : ℤ) (m : ℕ) (lattice : List ℤ) (cells : List ℕ) (w : ℕ) (seen : Seen) : Type 0 where
-  pub clear : (i : ℕ) → i < w → Clear stage m lattice (getD cells i 0) (getD cells i 0 + 4) seen
 
 -- ---- a yes or no
 

@@ -1,15 +1,13 @@
-// Whether a node of a strip stands above a stage. A band is the rows of nodes that lie in one row of cells. A band whose control values are all at or below the
-// stage is passed over; of any other the columns from the first cell that is not to the last are worked out, by x sums in a ring as a raster has them.
+// Whether a node of a strip stands above a stage. A band is the rows of nodes that lie in one row of cells. The columns from its first cell with a control value
+// above the stage to its last are worked out, by x sums in a ring as a raster has them, and all others are passed over.
 ghost use mathlib.Core.Path.{_≡_};
-ghost use Prim.Native.Nat.{ℕ, _+_, _*_, _≤_, _<_, max};
-ghost use lib.ListN.{length, getD};
+ghost use Prim.Native.Nat.{ℕ, _+_, _≤_, _<_};
+ghost use lib.ListN.{length};
 ghost use Rattle.basis.specs.Weighing.{Grounded, weightSize};
-ghost use Rattle.below.specs.Below.{CellsBelow};
 ghost use Rattle.strips.specs.Strips.{StripInside, Tapped, Ringed, RingInRange, rowCell};
-ghost use Rattle.bands.specs.Bands.{RowsInside, Band, RowsClear, Threshold, SumsDecided, BandDecided, Decided, NodeAbove, NodesBelow};
+ghost use Rattle.bands.specs.Bands.{RowsInside, Band, Threshold, SumsDecided, BandDecided, Decided, NodeAbove, NodesBelow};
 use basis::Basis;
 use below::Due;
-use below::Seen;
 use strips::Strip;
 
 // What the ring holds: at columns from to to - 1, the sums of the four lattice rows before next.
@@ -31,36 +29,31 @@ fn band_end(s: Strip, cell: usize, j: usize, rows: usize) -> usize
     machine::lesser(rows, (last - s.y0) / s.step + 1)
 }
 
-// What the ring is to hold for the due columns of cell row `cell`: with them the columns that it has, if it has any of the four lattice rows.
-fn widened(kept: Kept, due: Due, cell: usize) -> Kept
-    requires { ⌜ kept .next ≤ cell + 4 ⌝ }
-    ensures { λ r. ⌜ (r .from ≤ due .from) × (due .to ≤ r .to) × (r .to ≤ max (kept .to) (due .to)) × (cell ≤ r .next) × (r .next ≤ cell + 4) × (cell < r .next → r ≡ kept) ⌝ }
+// What the ring has of the due columns and of the four lattice rows of cell row `cell`; if that is nothing, all columns due, with no row.
+fn held(kept: Kept, due: Due, cell: usize) -> Kept
+    requires { ⌜ (due .from < due .to) × (kept .next ≤ cell + 4) ⌝ }
+    ensures { λ r. ⌜ (due .from ≤ r .from) × (r .from ≤ r .to) × (r .to ≤ due .to) × (cell ≤ r .next) × (r .next ≤ cell + 4) × (cell < r .next → (kept .from ≤ r .from) × (r .to ≤ kept .to) × (r .next ≡ kept .next)) ⌝ }
 {
-    if kept.next <= cell {
-        return Kept {
-            from: due.from,
-            to: due.to,
-            next: cell,
-        };
+    let from = machine::greater(kept.from, due.from);
+    let to = machine::lesser(kept.to, due.to);
+    if from < to {
+        if cell < kept.next {
+            return Kept {
+                from,
+                to,
+                next: kept.next,
+            };
+        }
     }
-    if due.from < kept.from {
-        return Kept {
-            from: due.from,
-            to: machine::greater(kept.to, due.to),
-            next: cell,
-        };
+    Kept {
+        from: due.from,
+        to: due.to,
+        next: cell,
     }
-    if kept.to < due.to {
-        return Kept {
-            from: kept.from,
-            to: due.to,
-            next: cell,
-        };
-    }
-    kept
 }
 
-// The ring with the four lattice rows of cell row `cell` at the due columns.
+// The ring with the four lattice rows of cell row `cell` at the due columns. What it has of them already stays, and the rest is summed: rows that follow, and
+// columns to the left and to the right.
 fn refill(
     s: Strip,
     lattice: &[i64],
@@ -71,15 +64,39 @@ fn refill(
     cell: usize,
     ring: &mut [i64; 256],
 ) -> Kept
-    requires { ⌜ Tapped s (now lattice) (now cells) (now taps) × (cell < s .n) × (due .from < due .to) × (due .to ≤ s .w) × (kept .to ≤ s .w) × (kept .next ≤ cell + 4) × Ringed s (now lattice) (kept .from) (kept .to) (kept .next) (kept .next) (now ring) ⌝ }
-    ensures { λ r. ⌜ (r .from ≤ due .from) × (due .to ≤ r .to) × (r .to ≤ s .w) × (r .next ≡ cell + 4) × Ringed s (now (lattice .entry)) (r .from) (r .to) (cell + 4) (cell + 4) (now (ring .exit)) ⌝ }
+    requires { ⌜ Tapped s (now lattice) (now cells) (now taps) × (cell < s .n) × (due .from < due .to) × (due .to ≤ s .w) × (kept .next ≤ cell + 4) × Ringed s (now lattice) (kept .from) (kept .to) (kept .next) (kept .next) (now ring) ⌝ }
+    ensures { λ r. ⌜ (r .from ≡ due .from) × (r .to ≡ due .to) × (r .next ≡ cell + 4) × Ringed s (now (lattice .entry)) (due .from) (due .to) (cell + 4) (cell + 4) (now (ring .exit)) ⌝ }
 {
-    let wide = widened(kept, due, cell);
-    let from = wide.from;
-    let to = wide.to;
+    let had = held(kept, due, cell);
     let next = cell + 4;
-    strips::advance(s, lattice, cells, taps, from, to, wide.next, next, ring);
-    Kept { from, to, next }
+    strips::advance(
+        s,
+        lattice,
+        cells,
+        taps,
+        had.from,
+        had.to,
+        had.next,
+        next,
+        ring,
+    );
+    strips::advance(
+        s,
+        lattice,
+        cells,
+        taps,
+        due.from,
+        had.from,
+        cell,
+        next,
+        ring,
+    );
+    strips::advance(s, lattice, cells, taps, had.to, due.to, cell, next, ring);
+    Kept {
+        from: due.from,
+        to: due.to,
+        next,
+    }
 }
 
 // Whether a node of one row has a y sum above `most`, in columns from to to - 1.
@@ -123,24 +140,6 @@ fn band_above(
     false
 }
 
-// The columns of a band that have to be worked out; none where the lattice rows of its cells are clear.
-fn band_due(
-    s: Strip,
-    lattice: &[i64],
-    cells: &[usize; 64],
-    cell: usize,
-    seen: Seen,
-    stage: i64,
-) -> Due
-    requires { ⌜ (s .w ≤ 64) × ((cell + 4) * (s .m + 3) ≤ length (now lattice)) × ((i : ℕ) → i < s .w → getD (now cells) i 0 < s .m) × (seen .next ≡ cell + 4) × RowsClear stage (s .m) (now lattice) (now cells) (s .w) seen ⌝ }
-    ensures { λ r. ⌜ (r .from ≤ s .w) × (r .to ≤ s .w) × CellsBelow stage (s .m) (now (lattice .entry)) (now (cells .entry)) cell 0 (r .from) × CellsBelow stage (s .m) (now (lattice .entry)) (now (cells .entry)) cell (r .to) (s .w) ⌝ }
-{
-    if seen.clear <= cell {
-        return Due { from: s.w, to: s.w };
-    }
-    below::due_columns(lattice, s.m, cells, s.w, cell, stage)
-}
-
 // Whether a node of the strip is above the stage, band by band; `most` is the greatest y sum whose height is not.
 fn bands_above(
     s: Strip,
@@ -157,7 +156,9 @@ fn bands_above(
 {
     let left = cells[0];
     let right = cells[s.w - 1] + 4;
-    let mut seen = Seen { next: 0, clear: 0 };
+    let mut firsts = [0; 4];
+    let mut ends = [0; 4];
+    let mut seen = 0;
     let mut kept = Kept {
         from: 0,
         to: 0,
@@ -168,8 +169,19 @@ fn bands_above(
         let up = basis::locate(s.y0 + s.step * j, s.n, s.e);
         let cell = up.cell;
         let end = band_end(s, cell, j, rows);
-        seen = below::look(lattice, s.m, left, right, cell, seen, stage);
-        let due = band_due(s, lattice, cells, cell, seen, stage);
+        below::look(
+            lattice,
+            s.m,
+            left,
+            right,
+            cell,
+            seen,
+            stage,
+            &mut firsts,
+            &mut ends,
+        );
+        seen = cell + 4;
+        let due = below::due_columns(cells, s.w, &firsts, &ends);
         if due.from < due.to {
             kept = refill(s, lattice, cells, taps, kept, due, cell, ring);
             if band_above(s, ring, cell, due, j, end, most) {

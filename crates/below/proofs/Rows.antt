@@ -1,30 +1,67 @@
--- Control values at or below a stage: one row of them more, and the cells of more columns.
+-- Values at or below a stage, and the lattice rows that were looked at.
 use mathlib.Core.Path.{_≡_}
 use mathlib.Core.List.{List}
-use Prim.Native.Nat.{ℕ, _+_, _*_, _≤_, _<_}
+use Prim.Native.Nat.{ℕ, zero, suc, _+_, _*_, _%_, _≤_, _<_, min, max}
 use native.Mathlib.Nat.{mul-le-mul-right}
+use native.Mathlib.Decide.{decLt}
 use native.Mathlib.Omega.{arith}
 use lib.IntN.{ℤ}
-use lib.ListN.{getD}
-use lib.Signed.{_≤ℤ_}
+use lib.ListN.{getD, set, length-set}
+use lib.Seq.{getD-set-same, getD-set-other}
 use Rattle.rules.specs.Grid.{control}
-use Rattle.below.specs.Below.{ValuesBelow, ControlsBelow, CellBelow, CellsBelow}
-use Rattle.below.specs.Ranges.{above-more, joined}
+use Rattle.below.specs.Below.{ValuesBelow, RowBelow, RowsBelow}
+
+-- fewer values, of the stage that the bits stand for
+pub values-end : {z stage : ℤ} {l : List ℤ} {a b c d : ℕ} → z ≡ stage → a ≤ c → d ≤ b → ValuesBelow z l a b → ValuesBelow stage l c d
+values-end e h k v = record { low = λ i m n. rw e at (v .low i (omega arith) (omega arith)) }
+
+pub values-of : {z stage : ℤ} {l : List ℤ} {a b : ℕ} → z ≡ stage → ValuesBelow z l a b → ValuesBelow stage l a b
+values-of e v = rw e at v
 
 -- of the rows before `last`, row t ends within so many values
 pub row-stored : (m t last : ℕ) {right long : ℕ} → t < last → right ≤ m + 3 → last * (m + 3) ≤ long → t * (m + 3) + right ≤ long
 row-stored m t last h r k = omega (arith, mul-le-mul-right (m + 3) h)
 
-pub rows-more : {z : ℤ} {m : ℕ} {l : List ℤ} {left right a t q end : ℕ} → q ≡ t * (m + 3) + left → end ≡ t * (m + 3) + right
-    → ControlsBelow z m l left right a t → ValuesBelow z l q end → ControlsBelow z m l left right a (t + 1)
+-- a row by the places of its values
+pub row-below : {stage : ℤ} {l : List ℤ} (m : ℕ) {left right : ℕ} (t : ℕ) {first end p q : ℕ} → p ≤ t * (m + 3) + left → t * (m + 3) + first ≤ q → ValuesBelow stage l p q
+    → {r u : ℕ} → r ≤ t * (m + 3) + end → t * (m + 3) + right ≤ u → ValuesBelow stage l r u → RowBelow stage m l left right t first end
 unfolding control
-rows-more {z} {m} {l} {a = a} {t} q e had row =
-    record { low = λ s k h n. above-more (λ k. control m l s k ≤ℤ z) a t (λ k. had .low s k h n) (row .low (t * (m + 3) + s) (omega arith) (omega arith)) k }
+row-below m t a b before c d behind = record { before = λ s h k. before .low (t * (m + 3) + s) (omega arith) (omega arith); behind = λ s h k. behind .low (t * (m + 3) + s) (omega arith) (omega arith) }
 
--- columns of one cell are judged by it
-pub one-cell : {z : ℤ} {m : ℕ} {l : List ℤ} {cells : List ℕ} {k from to : ℕ} (i : ℕ) → ((t : ℕ) → from ≤ t → t < to → getD cells t 0 ≡ getD cells i 0)
-    → CellBelow z m l (getD cells i 0) k → CellsBelow z m l cells k from to
-one-cell i same low = record { low = λ t h n. rw (same t h n) low }
+-- one row more
+pub rows-more : {stage : ℤ} {m : ℕ} {l : List ℤ} {left right last t : ℕ} {firsts ends : List ℕ} {first end : ℕ} → t < last
+    → RowBelow stage m l left right t first end → RowsBelow stage m l left right last t firsts ends
+    → RowsBelow stage m l left right last (t + 1) (set firsts (t % 4) first) (set ends (t % 4) end)
+rows-more {stage} {m} {l} {left} {right} {last} {t} {firsts} {ends} {first} {end} h new had =
+    record { four-firsts = simp length-set (had .four-firsts); four-ends = simp length-set (had .four-ends); row = λ r a b. go r a b (decLt r t) }
+  where
+    go : (r : ℕ) → last ≤ r + 4 → r < t + 1 → Dec (r < t) → RowBelow stage m l left right r (getD (set firsts (t % 4) first) (r % 4) 0) (getD (set ends (t % 4) end) (r % 4) 0)
+    go r a b (yes d) = rw (getD-set-other firsts (t % 4) (r % 4) first 0 (omega arith), getD-set-other ends (t % 4) (r % 4) end 0 (omega arith)) (had .row r a d)
+    go r a b (no d) =
+        let same : r ≡ t = omega arith in
+        rw (same, getD-set-same firsts (t % 4) first 0 (omega (arith, had .four-firsts)), getD-set-same ends (t % 4) end 0 (omega (arith, had .four-ends))) new
 
-pub columns-joined : {z : ℤ} {m : ℕ} {l : List ℤ} {cells : List ℕ} {k a b c : ℕ} → CellsBelow z m l cells k a b → CellsBelow z m l cells k b c → CellsBelow z m l cells k a c
-columns-joined {z} {m} {l} {cells} {k} {a} {b} {c} first second = record { low = joined (λ t. CellBelow z m l (getD cells t 0) k) a b c (first .low) (second .low) }
+-- ---- four numbers
+
+module _ (f : List ℕ) {a b c : ℕ} where
+  pub four-least : a ≡ min (getD f 0 0) (getD f 1 0) → b ≡ min (getD f 2 0) (getD f 3 0) → c ≡ min a b → (j : ℕ) → j < 4 → c ≤ getD f j 0
+  four-least p q r zero h = omega arith
+  four-least p q r (suc zero) h = omega arith
+  four-least p q r (suc (suc zero)) h = omega arith
+  four-least p q r (suc (suc (suc zero))) h = omega arith
+  four-least p q r (suc (suc (suc (suc j)))) h = absurd (omega arith)
+
+  pub four-most : a ≡ max (getD f 0 0) (getD f 1 0) → b ≡ max (getD f 2 0) (getD f 3 0) → c ≡ max a b → (j : ℕ) → j < 4 → getD f j 0 ≤ c
+  four-most p q r zero h = omega arith
+  four-most p q r (suc zero) h = omega arith
+  four-most p q r (suc (suc zero)) h = omega arith
+  four-most p q r (suc (suc (suc zero))) h = omega arith
+  four-most p q r (suc (suc (suc (suc j)))) h = absurd (omega arith)
+
+-- of the four rows from row k on, those before `next` were looked at; and of the stage that the bits stand for
+module _ {stage z : ℤ} {m : ℕ} {l : List ℤ} {left right next : ℕ} {firsts ends : List ℕ} where
+  pub rows-from : (k : ℕ) → z ≡ stage → {t : ℕ} → t ≡ max next k → next ≤ k + 4 → RowsBelow stage m l left right next next firsts ends → RowsBelow z m l left right (k + 4) t firsts ends
+  rows-from k e is most had = rw e (record { four-firsts = had .four-firsts; four-ends = had .four-ends; row = λ r a b. had .row r (omega arith) (omega arith) })
+
+  pub rows-of : {last t : ℕ} → z ≡ stage → t ≡ next → RowsBelow z m l left right last t firsts ends → RowsBelow stage m l left right last next firsts ends
+  rows-of e is had = rw (e, is) at had

@@ -1,159 +1,148 @@
-// Control values at or below a stage. Where all sixteen of a cell are, no height in the cell is above it, and its nodes need not be worked out. A cell's
-// verdict is found once for all its nodes; lattice rows that are at or below the stage across a whole strip spare it the verdicts.
+// Control values at or below a stage. Where all sixteen of a cell are, no height in the cell is above it, and its nodes need not be worked out. Of each lattice
+// row the first and the last value above the stage are found, once for all the cells that read it: what lies before the first of four rows and behind the
+// last is at or below the stage.
 ghost use mathlib.Core.Path.{_≡_};
-ghost use mathlib.Core.Bool.{true};
 ghost use Prim.Native.Nat.{ℕ, _+_, _*_, _≤_, _<_};
 ghost use lib.ListN.{length, getD};
-ghost use Rattle.below.specs.Below.{ValuesBelow, CellBelow, Clear, CellsBelow};
+ghost use Rattle.below.specs.Below.{ValuesBelow, RowBelow, RowsBelow, Rising, Apart};
 
-// Lattice rows that were looked at, across a strip: of those before next, the ones from clear on are at or below the stage.
-pub struct Seen {
-    pub next: usize,
-    pub clear: usize,
+// The part of a lattice row that has values above the stage: columns first to end - 1; what lies outside is at or below it.
+pub struct High {
+    pub first: usize,
+    pub end: usize,
 }
 
-// The columns of a strip that have to be worked out, from `from` to `to` - 1, in the nodes' rows of one row of cells.
+// The columns of a strip that have to be worked out, from `from` to `to` - 1.
 pub struct Due {
     pub from: usize,
     pub to: usize,
 }
 
-// Whether the values from place q to end - 1 are at or below the stage.
-fn values_below(lattice: &[i64], q: usize, end: usize, stage: i64) -> bool
-    requires { ⌜ end ≤ length (now lattice) ⌝ }
-    ensures { λ r. ⌜ (r ≡ true → ValuesBelow stage (now (lattice .entry)) q end) ⌝ }
+// The first of the values at places q to end - 1 that is above the stage, or end.
+fn first_high(lattice: &[i64], q: usize, end: usize, stage: i64) -> usize
+    requires { ⌜ (q ≤ end) × (end ≤ length (now lattice)) ⌝ }
+    ensures { λ r. ⌜ (q ≤ r) × (r ≤ end) × ValuesBelow stage (now (lattice .entry)) q r ⌝ }
 {
     let mut i = q;
     while i < end {
         if stage < lattice[i] {
-            return false;
+            return i;
         }
         i += 1;
     }
-    true
+    end
 }
 
-// Whether the sixteen control values of the cell in column c and row k are at or below the stage.
-fn cell_below(lattice: &[i64], m: usize, c: usize, k: usize, stage: i64) -> bool
-    requires { ⌜ (c < m) × ((k + 4) * (m + 3) ≤ length (now lattice)) ⌝ }
-    ensures { λ r. ⌜ (r ≡ true → CellBelow stage m (now (lattice .entry)) c k) ⌝ }
+// One past the last of them that is, or q.
+fn past_high(lattice: &[i64], q: usize, end: usize, stage: i64) -> usize
+    requires { ⌜ (q ≤ end) × (end ≤ length (now lattice)) ⌝ }
+    ensures { λ r. ⌜ (q ≤ r) × (r ≤ end) × ValuesBelow stage (now (lattice .entry)) r end ⌝ }
 {
-    let mut t = k;
-    while t < k + 4 {
-        let q = t * (m + 3) + c;
-        if !values_below(lattice, q, q + 4, stage) {
-            return false;
+    let mut i = end;
+    while q < i {
+        if stage < lattice[i - 1] {
+            return i;
         }
-        t += 1;
+        i = i - 1;
     }
-    true
+    q
 }
 
-// The rows of cell row k looked at too, in the lattice's columns left to right - 1.
+// What of lattice row t is above the stage, in columns left to right - 1.
+fn row_high(lattice: &[i64], m: usize, left: usize, right: usize, t: usize, stage: i64) -> High
+    requires { ⌜ (left ≤ right) × (m + 3 ≤ length (now lattice)) × (t * (m + 3) + right ≤ length (now lattice)) ⌝ }
+    ensures { λ r. ⌜ RowBelow stage m (now (lattice .entry)) left right t (r .first) (r .end) ⌝ }
+{
+    let q = t * (m + 3);
+    let last = q + right;
+    let first = first_high(lattice, q + left, last, stage);
+    if first == last {
+        return High {
+            first: right,
+            end: left,
+        };
+    }
+    let end = past_high(lattice, first, last, stage);
+    High {
+        first: first - q,
+        end: end - q,
+    }
+}
+
+// The four lattice rows of cell row k looked at; those before next are already.
 pub fn look(
     lattice: &[i64],
     m: usize,
     left: usize,
     right: usize,
     k: usize,
-    seen: Seen,
+    next: usize,
     stage: i64,
-) -> Seen
-    requires { ⌜ (left ≤ right) × (right ≤ m + 3) × ((k + 4) * (m + 3) ≤ length (now lattice)) × (seen .next ≤ k + 4) × Clear stage m (now lattice) left right seen ⌝ }
-    ensures { λ r. ⌜ (r .next ≡ k + 4) × Clear stage m (now (lattice .entry)) left right r ⌝ }
+    firsts: &mut [usize; 4],
+    ends: &mut [usize; 4],
+)
+    requires { ⌜ (left ≤ right) × (right ≤ m + 3) × ((k + 4) * (m + 3) ≤ length (now lattice)) × (next ≤ k + 4) × RowsBelow stage m (now lattice) left right next next (now firsts) (now ends) ⌝ }
+    ensures { λ _. ⌜ RowsBelow stage m (now (lattice .entry)) left right (k + 4) (k + 4) (now (firsts .exit)) (now (ends .exit)) ⌝ }
 {
     let last = k + 4;
-    let mut t = machine::greater(seen.next, k);
-    let mut clear = machine::greater(seen.clear, k);
+    let mut t = machine::greater(next, k);
     while t < last {
-        let q = t * (m + 3);
-        if !values_below(lattice, q + left, q + right, stage) {
-            clear = t + 1;
-        }
+        let high = row_high(lattice, m, left, right, t, stage);
+        firsts[t % 4] = high.first;
+        ends[t % 4] = high.end;
         t += 1;
     }
-    Seen { next: last, clear }
 }
 
-// The first column after i that lies in another cell, or w.
-fn past(cells: &[usize; 64], w: usize, i: usize) -> usize
-    requires { ⌜ (i < w) × (w ≤ 64) ⌝ }
-    ensures { λ r. ⌜ (i < r) × (r ≤ w) × ((t : ℕ) → i ≤ t → t < r → getD (now (cells .entry)) t 0 ≡ getD (now (cells .entry)) i 0) ⌝ }
-{
-    let c = cells[i];
-    let mut t = i + 1;
-    while t < w {
-        if cells[t] != c {
-            return t;
-        }
-        t += 1;
-    }
-    w
-}
-
-// The first column of the cell that the column before i lies in.
-fn start(cells: &[usize; 64], i: usize) -> usize
-    requires { ⌜ (0 < i) × (i ≤ 64) ⌝ }
-    ensures { λ r. ⌜ (r < i) × ((t : ℕ) → r ≤ t → t < i → getD (now (cells .entry)) t 0 ≡ getD (now (cells .entry)) r 0) ⌝ }
-{
-    let mut t = i - 1;
-    let c = cells[t];
-    while 0 < t {
-        if cells[t - 1] != c {
-            return t;
-        }
-        t = t - 1;
-    }
-    0
-}
-
-// The first column whose cell in row k is not at or below the stage, or w.
-fn due_from(lattice: &[i64], m: usize, cells: &[usize; 64], w: usize, k: usize, stage: i64) -> usize
-    requires { ⌜ (w ≤ 64) × ((k + 4) * (m + 3) ≤ length (now lattice)) × ((i : ℕ) → i < w → getD (now cells) i 0 < m) ⌝ }
-    ensures { λ r. ⌜ (r ≤ w) × CellsBelow stage m (now (lattice .entry)) (now (cells .entry)) k 0 r ⌝ }
+// The first column whose cell reaches the lattice's column `first`, or w.
+fn due_from(cells: &[usize; 64], w: usize, first: usize) -> usize
+    requires { ⌜ (w ≤ 64) × Rising (now cells) w ⌝ }
+    ensures { λ r. ⌜ (r ≤ w) × ((i : ℕ) → i < r → getD (now (cells .entry)) i 0 + 4 ≤ first) ⌝ }
 {
     let mut i = 0;
     while i < w {
-        let c = cells[i];
-        if !cell_below(lattice, m, c, k, stage) {
+        if first < cells[i] + 4 {
             return i;
         }
-        i = past(cells, w, i);
+        i += 1;
     }
     w
 }
 
-// One past the last such column, or 0.
-fn due_to(lattice: &[i64], m: usize, cells: &[usize; 64], w: usize, k: usize, stage: i64) -> usize
-    requires { ⌜ (w ≤ 64) × ((k + 4) * (m + 3) ≤ length (now lattice)) × ((i : ℕ) → i < w → getD (now cells) i 0 < m) ⌝ }
-    ensures { λ r. ⌜ (r ≤ w) × CellsBelow stage m (now (lattice .entry)) (now (cells .entry)) k r w ⌝ }
+// One past the last column whose cell begins before the lattice's column `end`, or 0.
+fn due_to(cells: &[usize; 64], w: usize, end: usize) -> usize
+    requires { ⌜ w ≤ 64 ⌝ }
+    ensures { λ r. ⌜ (r ≤ w) × ((i : ℕ) → r ≤ i → i < w → end ≤ getD (now (cells .entry)) i 0) ⌝ }
 {
     let mut i = w;
     while 0 < i {
-        let t = start(cells, i);
-        let c = cells[t];
-        if !cell_below(lattice, m, c, k, stage) {
+        if cells[i - 1] < end {
             return i;
         }
-        i = t;
+        i = i - 1;
     }
     0
 }
 
-// The columns whose cells in row k are not all at or below the stage: what lies before or behind them needs no work.
-pub fn due_columns(
-    lattice: &[i64],
-    m: usize,
-    cells: &[usize; 64],
-    w: usize,
-    k: usize,
-    stage: i64,
-) -> Due
-    requires { ⌜ (w ≤ 64) × ((k + 4) * (m + 3) ≤ length (now lattice)) × ((i : ℕ) → i < w → getD (now cells) i 0 < m) ⌝ }
-    ensures { λ r. ⌜ (r .from ≤ w) × (r .to ≤ w) × CellsBelow stage m (now (lattice .entry)) (now (cells .entry)) k 0 (r .from) × CellsBelow stage m (now (lattice .entry)) (now (cells .entry)) k (r .to) w ⌝ }
+// The columns that are left to work out in a row of cells, by what is above the stage in its four lattice rows: often none, which the last column's cell tells.
+pub fn due_columns(cells: &[usize; 64], w: usize, firsts: &[usize; 4], ends: &[usize; 4]) -> Due
+    requires { ⌜ (0 < w) × (w ≤ 64) × Rising (now cells) w ⌝ }
+    ensures { λ r. ⌜ (r .from ≤ w) × (r .to ≤ w) × Apart (now (cells .entry)) w (now (firsts .entry)) (now (ends .entry)) (r .from) (r .to) ⌝ }
 {
+    let first = machine::lesser(
+        machine::lesser(firsts[0], firsts[1]),
+        machine::lesser(firsts[2], firsts[3]),
+    );
+    let last = cells[w - 1] + 4;
+    if last <= first {
+        return Due { from: w, to: w };
+    }
+    let end = machine::greater(
+        machine::greater(ends[0], ends[1]),
+        machine::greater(ends[2], ends[3]),
+    );
     Due {
-        from: due_from(lattice, m, cells, w, k, stage),
-        to: due_to(lattice, m, cells, w, k, stage),
+        from: due_from(cells, w, first),
+        to: due_to(cells, w, end),
     }
 }

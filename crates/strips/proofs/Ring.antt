@@ -8,7 +8,7 @@ use native.Mathlib.Omega.{arith}
 use lib.IntN.{ℤ, pos}
 use lib.ListN.{length, getD, set}
 use Rattle.algebra.specs.Table.{Apart, tabulate, laid, length-tabulate, getD-tabulate, length-laid, getD-laid, getD-apart, laid-none, laid-store}
-use Rattle.strips.specs.Strips.{columnSum, Ringed}
+use Rattle.strips.specs.Strips.{columnSum, Ringed, Spared}
 use Rattle.strips.specs.declared.Strip.{Strip}
 
 -- the ring with the sums of lattice row r too, at columns from to to - 1
@@ -66,3 +66,31 @@ ring-more s l from to last r {before} {after} order narrow below row had =
         ∙ getD-laid start sums before k (pos 0) (rw many (omega arith)) (omega (arith, had .whole))
         ∙ getD-tabulate (to - from) sum k (pos 0) (omega arith)
         ∙ ap (columnSum s l r) column)
+
+-- one row's sums spare the other columns
+pub row-spared : (r from to : ℕ) (f : ℕ → ℤ) {before after : List ℤ} → from ≤ to → to ≤ 64 → length before ≡ 256
+    → after ≡ laid (r % 4 * 64 + from) (tabulate (to - from) f) before → Spared from to before after
+row-spared r from to f {before} {after} order narrow whole row =
+    record { left = λ t i h. same t i (left t i h (decLt (r % 4) (t % 4))); right = λ t i m n. same t i (right t i m n (decLt (t % 4) (r % 4))) }
+  where
+    start : ℕ
+    start = r % 4 * 64 + from
+
+    sums : List ℤ
+    sums = tabulate (to - from) f
+
+    many : length sums ≡ to - from
+    many = length-tabulate (to - from) f
+
+    left : (t i : ℕ) → i < from → Dec (r % 4 < t % 4) → Apart (t % 4 * 64 + i) 1 start (length sums)
+    left t i h (yes a) = inr (rw many (omega arith))
+    left t i h (no b) = inl (omega arith)
+
+    right : (t i : ℕ) → to ≤ i → i < 64 → Dec (t % 4 < r % 4) → Apart (t % 4 * 64 + i) 1 start (length sums)
+    right t i m n (yes a) = inl (omega arith)
+    right t i m n (no b) = inr (rw many (omega arith))
+
+    same : (t i : ℕ) → Apart (t % 4 * 64 + i) 1 start (length sums) → getD after (t % 4 * 64 + i) (pos 0) ≡ getD before (t % 4 * 64 + i) (pos 0)
+    same t i apart =
+        ap (λ d. getD d (t % 4 * 64 + i) (pos 0)) row
+        ∙ getD-apart (t % 4 * 64 + i) start sums before (pos 0) apart (omega (arith, whole))

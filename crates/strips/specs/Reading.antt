@@ -1,5 +1,6 @@
 -- How a strip is read: its columns and its rows lie on the grid, and from row to row the ring has the sums that make the heights.
 use mathlib.Core.Path.{_≡_, refl, ap, _∙_}
+use mathlib.Core.Logic.{_⊎_, ⊎-elim}
 use mathlib.Core.List.{List}
 use Prim.Native.Nat.{ℕ, _+_, _-_, _*_, _^_, _≤_, _<_, min, max}
 use native.Mathlib.Nat.{mul-le-mul-left, le-trans, not-suc-le-zero}
@@ -15,7 +16,7 @@ use Rattle.basis.specs.Weighing.{Weighs, Located, Grounded, numerators, weightS
 use Rattle.basis.specs.Sums.{On, Based, on-grid, placed, weight-most, row-within, height-is}
 use Rattle.basis.specs.declared.Basis.{Basis}
 use Rattle.basis.specs.declared.Spot.{Spot}
-use Rattle.strips.specs.Strips.{stripAt, columnX, StripInside, Ringed, RingInRange, nodeSum, heightAt, rowCell}
+use Rattle.strips.specs.Strips.{stripAt, columnX, StripInside, Ringed, Spared, RingInRange, nodeSum, heightAt, rowCell}
 use Rattle.strips.specs.declared.Strip.{Strip}
 
 -- ---- a strip of a raster
@@ -56,6 +57,25 @@ pub next-more : (s : Strip) (j : ℕ) {next : ℕ} → next ≡ rowCell s j + 4 
 next-more s j e k h =
     let later : j ≤ k = omega arith in
     omega (arith, cell-mono (2 ^ s .e) (s .n) (s .y0 + s .step * j) (s .y0 + s .step * k) (pow-pos (s .e)) (omega (arith, mul-le-mul-left (s .step) later)))
+
+-- ---- columns that a ring's sums spare
+
+pub spared-none : (from to : ℕ) (ring : List ℤ) → Spared from to ring ring
+spared-none from to ring = record { left = λ r i h. refl; right = λ r i m n. refl }
+
+pub spared-more : {from to : ℕ} {before between after : List ℤ} → Spared from to before between → Spared from to between after → Spared from to before after
+spared-more p q = record { left = λ r i h. q .left r i h ∙ p .left r i h; right = λ r i m n. q .right r i m n ∙ p .right r i m n }
+
+-- sums at other columns stay
+pub spared-ringed : {s : Strip} {l : List ℤ} {a b last next from to : ℕ} {before after : List ℤ} → Spared from to before after → length after ≡ 256 → b ≤ 64
+    → (b ≤ from) ⊎ (to ≤ a) → Ringed s l a b last next before → Ringed s l a b last next after
+spared-ringed spared whole narrow other had =
+    record {
+      whole = whole;
+      sum =
+          λ r i late below m n.
+          ⊎-elim (λ h. spared .left r i (omega arith)) (λ h. spared .right r i (omega arith) (omega arith)) other ∙ had .sum r i late below m n;
+    }
 
 -- ---- a row
 

@@ -67,6 +67,11 @@ pub record Ringed (s : Strip) (lattice : List ℤ) (from to last next : ℕ) (ri
   pub whole : length ring ≡ 256
   pub sum : (r i : ℕ) → last ≤ r + 4 → r < next → from ≤ i → i < to → getD ring (r % 4 * 64 + i) (pos 0) ≡ columnSum s lattice r i
 
+-- the ring is as it was at columns before `from` and from `to` on
+pub record Spared (from to : ℕ) (before after : List ℤ) : Type 0 where
+  pub left : (r i : ℕ) → i < from → getD after (r % 4 * 64 + i) (pos 0) ≡ getD before (r % 4 * 64 + i) (pos 0)
+  pub right : (r i : ℕ) → to ≤ i → i < 64 → getD after (r % 4 * 64 + i) (pos 0) ≡ getD before (r % 4 * 64 + i) (pos 0)
+
 -- ---- nodes
 
 -- the four sums of the rows from cell on that a node reads

@@ -7,7 +7,7 @@ ghost use lib.ListN.{length, getD};
 ghost use Rattle.algebra.specs.Table.{tabulate, over, laid};
 ghost use Rattle.basis.specs.Weighing.{Grounded, weightSize};
 ghost use Rattle.basis.specs.Sums.{back};
-ghost use Rattle.strips.specs.Strips.{stripAt, StripInside, tapsAt, put, basisBack, Taps, Tapped, columnSum, Ringed, RingInRange, nodeSum, nodeAt, RowDue, RowDone, Room, heightAt, Striped};
+ghost use Rattle.strips.specs.Strips.{stripAt, StripInside, tapsAt, put, basisBack, Taps, Tapped, columnSum, Ringed, Spared, RingInRange, nodeSum, nodeAt, RowDue, RowDone, Room, heightAt, Striped};
 use basis::Basis;
 
 // w columns of a raster, from column on.
@@ -147,7 +147,7 @@ pub fn advance(
     ring: &mut [i64; 256],
 )
     requires { ⌜ Tapped s (now lattice) (now cells) (now taps) × (from ≤ to) × (to ≤ s .w) × (next ≤ last) × (last ≤ s .n + 3) × Ringed s (now lattice) from to last next (now ring) ⌝ }
-    ensures { λ _. ⌜ Ringed s (now (lattice .entry)) from to last last (now (ring .exit)) ⌝ }
+    ensures { λ _. ⌜ Ringed s (now (lattice .entry)) from to last last (now (ring .exit)) × Spared from to (now (ring .entry)) (now (ring .exit)) ⌝ }
 {
     let mut r = next;
     while r < last {
@@ -212,9 +212,9 @@ fn strip_row(
 {
     let up = basis::locate(s.y0 + s.step * j, s.n, s.e);
     let cell = up.cell;
-    let from = machine::greater(next, cell);
+    let first = machine::greater(next, cell);
     let last = cell + 4;
-    advance(s, lattice, cells, taps, 0, s.w, from, last, ring);
+    advance(s, lattice, cells, taps, 0, s.w, first, last, ring);
     let b = basis::basis_of(s.unit, up.offset);
     let start = j * s.columns + s.column;
     let end = start + s.w;

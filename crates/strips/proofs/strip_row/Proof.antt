@@ -35,7 +35,7 @@ module _ (d : tie.After-basis-of) where
   found = d .before .before .before .before .locate .ensures
 
   has : Ringed (start .args .s) (start .args .lattice .now) 0 (start .args .s .w) (spot .cell + 4) (spot .cell + 4) after
-  has = d .before .advance .ensures
+  has = d .before .advance .ensures .0
 
 -- ---- the needs
 
@@ -61,9 +61,9 @@ advance-requires c κs =
     let s = c .before .before .before .before .before in
     let p = s .pre in
     let at = c .before .before .locate in
-    let from = c .before .greater .ensures in
+    let first = c .before .greater .ensures in
     let most : s .args .next ≤ at .result .cell + 4 = omega (arith, p .next-most, at .ensures .cell-is) in
-    (p .strip, omega arith, omega arith, omega (arith, most, from), omega (arith, below (p .strip .columns) (at .ensures)), from-ringed _ most from (p .ringed))
+    (p .strip, omega arith, omega arith, omega (arith, most, first), omega (arith, below (p .strip .columns) (at .ensures)), from-ringed _ most first (p .ringed))
 
 basis-of-requires : tie.Need-basis-of-requires
 basis-of-requires c κs =
