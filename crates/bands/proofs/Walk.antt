@@ -43,8 +43,8 @@ module _ {s : Strip} {l : List ℤ} {cells : List ℕ} {taps : List ℤ} (t : Ta
   span h = let last : s .w - 1 < s .w = omega arith in (omega (arith, cells-rise 0 (s .w - 1) (omega arith) last), omega (arith, cell-inside (s .w - 1) last))
 
   -- what the four lattice rows of cell row k have told of the columns that are not due
-  module _ {stage : ℤ} (k : ℕ) {firsts ends : List ℕ} (rows : RowsBelow stage (s .m) l (getD cells 0 0) (getD cells (s .w - 1) 0 + 4) (k + 4) (k + 4) firsts ends)
-      {from to : ℕ} (apart : Apart cells (s .w) firsts ends from to) where
+  module _ {stage : ℤ} (k : ℕ) {highs : List ℕ} (rows : RowsBelow stage (s .m) l (getD cells 0 0) (getD cells (s .w - 1) 0 + 4) (k + 4) (k + 4) highs)
+      {from to : ℕ} (apart : Apart cells (s .w) highs from to) where
     pub cells-before : from ≤ s .w → CellsBelow stage (s .m) l cells k 0 from
     cells-before w = record {
       low = λ i h n. record {
@@ -98,17 +98,17 @@ module _ {s : Strip} {l : List ℤ} {stage : ℤ} where
 -- ---- from band to band
 
 -- before row j: the lattice rows before `seen` looked at, the ring, and no node above the stage
-pub record Walked (s : Strip) (l : List ℤ) (stage : ℤ) (left right seen : ℕ) (firsts ends : List ℕ) (kept : Kept) (ring : List ℤ) (j : ℕ) : Type 0 where
-  pub rows : RowsBelow stage (s .m) l left right seen seen firsts ends
+pub record Walked (s : Strip) (l : List ℤ) (stage : ℤ) (left right seen : ℕ) (highs : List ℕ) (kept : Kept) (ring : List ℤ) (j : ℕ) : Type 0 where
+  pub rows : RowsBelow stage (s .m) l left right seen seen highs
   pub seen-most : (k : ℕ) → j ≤ k → seen ≤ rowCell s k + 4
   pub held : Ringed s l (kept .from) (kept .to) (kept .next) (kept .next) ring
   pub kept-most : (k : ℕ) → j ≤ k → kept .next ≤ rowCell s k + 4
   pub low : NodesBelow s l stage 0 j 0 (s .w)
 
-pub unwalked : (s : Strip) (l : List ℤ) (stage : ℤ) (left right : ℕ) (firsts ends : List ℕ) (ring : List ℤ) → length firsts ≡ 4 → length ends ≡ 4 → length ring ≡ 256
-    → Walked s l stage left right 0 firsts ends (record { from = 0; to = 0; next = 0 }) ring 0
-unwalked s l stage left right firsts ends ring f e r = record {
-  rows = record { four-firsts = f; four-ends = e; row = λ t a b. absurd (omega arith) };
+pub unwalked : (s : Strip) (l : List ℤ) (stage : ℤ) (left right : ℕ) (highs : List ℕ) (ring : List ℤ) → length highs ≡ 8 → length ring ≡ 256
+    → Walked s l stage left right 0 highs (record { from = 0; to = 0; next = 0 }) ring 0
+unwalked s l stage left right highs ring e r = record {
+  rows = record { eight = e; row = λ t a b. absurd (omega arith) };
   seen-most = λ k h. omega arith;
   held = none-ringed r;
   kept-most = λ k h. omega arith;
@@ -133,15 +133,15 @@ pub all-low : {s : Strip} {l : List ℤ} {z stage : ℤ} {j rows : ℕ} → z �
 all-low e h n = record { low = λ j i m k f o. rw e at (n .low j i m (omega arith) f o) }
 
 -- the band of rows j to end - 1, in cell row k
-module _ {s : Strip} {l : List ℤ} {cells : List ℕ} {taps : List ℤ} (t : Tapped s l cells taps) {stage : ℤ} {left right seen : ℕ} {firsts ends : List ℕ} {kept : Kept} {ring : List ℤ} {j : ℕ}
-    (had : Walked s l stage left right seen firsts ends kept ring j) {k end : ℕ} (at : k ≡ rowCell s j) (some : j < end) (band : Band s k j end) (inside : RowsInside s end)
-    {firsts′ ends′ : List ℕ} (looked : RowsBelow stage (s .m) l left right (k + 4) (k + 4) firsts′ ends′)
+module _ {s : Strip} {l : List ℤ} {cells : List ℕ} {taps : List ℤ} (t : Tapped s l cells taps) {stage : ℤ} {left right seen : ℕ} {highs : List ℕ} {kept : Kept} {ring : List ℤ} {j : ℕ}
+    (had : Walked s l stage left right seen highs kept ring j) {k end : ℕ} (at : k ≡ rowCell s j) (some : j < end) (band : Band s k j end) (inside : RowsInside s end)
+    {now-high : List ℕ} (looked : RowsBelow stage (s .m) l left right (k + 4) (k + 4) now-high)
     {due : Due} (from-most : due .from ≤ s .w) (to-most : due .to ≤ s .w) (before : CellsBelow stage (s .m) l cells k 0 (due .from)) (behind : CellsBelow stage (s .m) l cells k (due .to) (s .w)) where
   later : (i : ℕ) → end ≤ i → k + 4 ≤ rowCell s i + 4
   later = next-past s j at (omega arith)
 
   -- none of its columns is due
-  pub passed-over : due .to ≤ due .from → Walked s l stage left right (k + 4) firsts′ ends′ kept ring end
+  pub passed-over : due .to ≤ due .from → Walked s l stage left right (k + 4) now-high kept ring end
   passed-over none = record {
     rows = looked;
     seen-most = later;
@@ -152,7 +152,7 @@ module _ {s : Strip} {l : List ℤ} {cells : List ℕ} {taps : List ℤ} (t : Ta
 
   -- those due are worked out, and the ring holds them
   pub worked-out : NodesBelow s l stage j end (due .from) (due .to) → {now : Kept} {after : List ℤ} → now .from ≡ due .from → now .to ≡ due .to → now .next ≡ k + 4
-      → Ringed s l (due .from) (due .to) (k + 4) (k + 4) after → Walked s l stage left right (k + 4) firsts′ ends′ now after end
+      → Ringed s l (due .from) (due .to) (k + 4) (k + 4) after → Walked s l stage left right (k + 4) now-high now after end
   worked-out low f u next held = record {
     rows = looked;
     seen-most = later;

@@ -68,30 +68,12 @@ fn refill(
     ensures { λ r. ⌜ (r .from ≡ due .from) × (r .to ≡ due .to) × (r .next ≡ cell + 4) × Ringed s (now (lattice .entry)) (due .from) (due .to) (cell + 4) (cell + 4) (now (ring .exit)) ⌝ }
 {
     let had = held(kept, due, cell);
+    let from = had.from;
+    let to = had.to;
     let next = cell + 4;
-    strips::advance(
-        s,
-        lattice,
-        cells,
-        taps,
-        had.from,
-        had.to,
-        had.next,
-        next,
-        ring,
-    );
-    strips::advance(
-        s,
-        lattice,
-        cells,
-        taps,
-        due.from,
-        had.from,
-        cell,
-        next,
-        ring,
-    );
-    strips::advance(s, lattice, cells, taps, had.to, due.to, cell, next, ring);
+    strips::advance(s, lattice, cells, taps, from, to, had.next, next, ring);
+    strips::advance(s, lattice, cells, taps, due.from, from, cell, next, ring);
+    strips::advance(s, lattice, cells, taps, to, due.to, cell, next, ring);
     Kept {
         from: due.from,
         to: due.to,
@@ -156,8 +138,7 @@ fn bands_above(
 {
     let left = cells[0];
     let right = cells[s.w - 1] + 4;
-    let mut firsts = [0; 4];
-    let mut ends = [0; 4];
+    let mut highs = [0; 8];
     let mut seen = 0;
     let mut kept = Kept {
         from: 0,
@@ -166,22 +147,11 @@ fn bands_above(
     };
     let mut j = 0;
     while j < rows {
-        let up = basis::locate(s.y0 + s.step * j, s.n, s.e);
-        let cell = up.cell;
+        let cell = basis::locate(s.y0 + s.step * j, s.n, s.e).cell;
         let end = band_end(s, cell, j, rows);
-        below::look(
-            lattice,
-            s.m,
-            left,
-            right,
-            cell,
-            seen,
-            stage,
-            &mut firsts,
-            &mut ends,
-        );
+        below::look(lattice, s.m, left, right, cell, seen, stage, &mut highs);
         seen = cell + 4;
-        let due = below::due_columns(cells, s.w, &firsts, &ends);
+        let due = below::due_columns(cells, s.w, &highs);
         if due.from < due.to {
             kept = refill(s, lattice, cells, taps, kept, due, cell, ring);
             if band_above(s, ring, cell, due, j, end, most) {

@@ -29,19 +29,27 @@ unfolding control
 row-below m t a b before c d behind = record { before = λ s h k. before .low (t * (m + 3) + s) (omega arith) (omega arith); behind = λ s h k. behind .low (t * (m + 3) + s) (omega arith) (omega arith) }
 
 -- one row more
-pub rows-more : {stage : ℤ} {m : ℕ} {l : List ℤ} {left right last t : ℕ} {firsts ends : List ℕ} {first end : ℕ} → t < last
-    → RowBelow stage m l left right t first end → RowsBelow stage m l left right last t firsts ends
-    → RowsBelow stage m l left right last (t + 1) (set firsts (t % 4) first) (set ends (t % 4) end)
-rows-more {stage} {m} {l} {left} {right} {last} {t} {firsts} {ends} {first} {end} h new had =
-    record { four-firsts = simp length-set (had .four-firsts); four-ends = simp length-set (had .four-ends); row = λ r a b. go r a b (decLt r t) }
+pub rows-more : {stage : ℤ} {m : ℕ} {l : List ℤ} {left right last t : ℕ} {highs : List ℕ} {first end : ℕ} → t < last
+    → RowBelow stage m l left right t first end → RowsBelow stage m l left right last t highs
+    → RowsBelow stage m l left right last (t + 1) (set (set highs (t % 4) first) (t % 4 + 4) end)
+rows-more {stage} {m} {l} {left} {right} {last} {t} {highs} {first} {end} h new had = record { eight = simp length-set (had .eight); row = λ r a b. go r a b (decLt r t) }
   where
-    go : (r : ℕ) → last ≤ r + 4 → r < t + 1 → Dec (r < t) → RowBelow stage m l left right r (getD (set firsts (t % 4) first) (r % 4) 0) (getD (set ends (t % 4) end) (r % 4) 0)
-    go r a b (yes d) = rw (getD-set-other firsts (t % 4) (r % 4) first 0 (omega arith), getD-set-other ends (t % 4) (r % 4) end 0 (omega arith)) (had .row r a d)
+    one : List ℕ
+    one = set highs (t % 4) first
+
+    two : List ℕ
+    two = set one (t % 4 + 4) end
+
+    go : (r : ℕ) → last ≤ r + 4 → r < t + 1 → Dec (r < t) → RowBelow stage m l left right r (getD two (r % 4) 0) (getD two (r % 4 + 4) 0)
+    go r a b (yes d) =
+        rw (getD-set-other one (t % 4 + 4) (r % 4) end 0 (omega arith), getD-set-other highs (t % 4) (r % 4) first 0 (omega arith), getD-set-other one (t % 4 + 4) (r % 4 + 4) end 0 (omega arith), getD-set-other highs (t % 4) (r % 4 + 4) first 0 (omega arith))
+        (had .row r a d)
     go r a b (no d) =
         let same : r ≡ t = omega arith in
-        rw (same, getD-set-same firsts (t % 4) first 0 (omega (arith, had .four-firsts)), getD-set-same ends (t % 4) end 0 (omega (arith, had .four-ends))) new
+        rw (same, getD-set-other one (t % 4 + 4) (t % 4) end 0 (omega arith), getD-set-same highs (t % 4) first 0 (omega (arith, had .eight)), getD-set-same one (t % 4 + 4) end 0 (simp length-set (omega (arith, had .eight))))
+        new
 
--- ---- four numbers
+-- ---- the first four of a list and the next four
 
 module _ (f : List ℕ) {a b c : ℕ} where
   pub four-least : a ≡ min (getD f 0 0) (getD f 1 0) → b ≡ min (getD f 2 0) (getD f 3 0) → c ≡ min a b → (j : ℕ) → j < 4 → c ≤ getD f j 0
@@ -51,7 +59,7 @@ module _ (f : List ℕ) {a b c : ℕ} where
   four-least p q r (suc (suc (suc zero))) h = omega arith
   four-least p q r (suc (suc (suc (suc j)))) h = absurd (omega arith)
 
-  pub four-most : a ≡ max (getD f 0 0) (getD f 1 0) → b ≡ max (getD f 2 0) (getD f 3 0) → c ≡ max a b → (j : ℕ) → j < 4 → getD f j 0 ≤ c
+  pub four-most : a ≡ max (getD f 4 0) (getD f 5 0) → b ≡ max (getD f 6 0) (getD f 7 0) → c ≡ max a b → (j : ℕ) → j < 4 → getD f (j + 4) 0 ≤ c
   four-most p q r zero h = omega arith
   four-most p q r (suc zero) h = omega arith
   four-most p q r (suc (suc zero)) h = omega arith
@@ -59,9 +67,9 @@ module _ (f : List ℕ) {a b c : ℕ} where
   four-most p q r (suc (suc (suc (suc j)))) h = absurd (omega arith)
 
 -- of the four rows from row k on, those before `next` were looked at; and of the stage that the bits stand for
-module _ {stage z : ℤ} {m : ℕ} {l : List ℤ} {left right next : ℕ} {firsts ends : List ℕ} where
-  pub rows-from : (k : ℕ) → z ≡ stage → {t : ℕ} → t ≡ max next k → next ≤ k + 4 → RowsBelow stage m l left right next next firsts ends → RowsBelow z m l left right (k + 4) t firsts ends
-  rows-from k e is most had = rw e (record { four-firsts = had .four-firsts; four-ends = had .four-ends; row = λ r a b. had .row r (omega arith) (omega arith) })
+module _ {stage z : ℤ} {m : ℕ} {l : List ℤ} {left right next : ℕ} {highs : List ℕ} where
+  pub rows-from : (k : ℕ) → z ≡ stage → {t : ℕ} → t ≡ max next k → next ≤ k + 4 → RowsBelow stage m l left right next next highs → RowsBelow z m l left right (k + 4) t highs
+  rows-from k e is most had = rw e (record { eight = had .eight; row = λ r a b. had .row r (omega arith) (omega arith) })
 
-  pub rows-of : {last t : ℕ} → z ≡ stage → t ≡ next → RowsBelow z m l left right last t firsts ends → RowsBelow stage m l left right last next firsts ends
+  pub rows-of : {last t : ℕ} → z ≡ stage → t ≡ next → RowsBelow z m l left right last t highs → RowsBelow stage m l left right last next highs
   rows-of e is had = rw (e, is) at had

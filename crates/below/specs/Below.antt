@@ -16,11 +16,10 @@ pub record RowBelow (stage : ℤ) (m : ℕ) (lattice : List ℤ) (left right t f
   pub before : (s : ℕ) → left ≤ s → s < first → control m lattice s t ≤ℤ stage
   pub behind : (s : ℕ) → end ≤ s → s < right → control m lattice s t ≤ℤ stage
 
--- so it is of those of the four lattice rows before `last` that are before `next`, row t by the entries t mod 4 of two lists
-pub record RowsBelow (stage : ℤ) (m : ℕ) (lattice : List ℤ) (left right last next : ℕ) (firsts ends : List ℕ) : Type 0 where
-  pub four-firsts : length firsts ≡ 4
-  pub four-ends : length ends ≡ 4
-  pub row : (t : ℕ) → last ≤ t + 4 → t < next → RowBelow stage m lattice left right t (getD firsts (t % 4) 0) (getD ends (t % 4) 0)
+-- so it is of those of the four lattice rows before `last` that are before `next`, row t by the entries t mod 4 and t mod 4 + 4 of a list
+pub record RowsBelow (stage : ℤ) (m : ℕ) (lattice : List ℤ) (left right last next : ℕ) (highs : List ℕ) : Type 0 where
+  pub eight : length highs ≡ 8
+  pub row : (t : ℕ) → last ≤ t + 4 → t < next → RowBelow stage m lattice left right t (getD highs (t % 4) 0) (getD highs (t % 4 + 4) 0)
 
 -- the cells of a strip's w columns: one of 512 each, and of a later column no earlier one
 pub record Rising (cells : List ℕ) (w : ℕ) : Type 0 where
@@ -28,9 +27,9 @@ pub record Rising (cells : List ℕ) (w : ℕ) : Type 0 where
   pub rise : (i j : ℕ) → i ≤ j → j < w → getD cells i 0 ≤ getD cells j 0
 
 -- the cells of a strip's columns before `from` end before the first of four lattice rows' values above the stage, and those from `to` on begin behind the last
-pub record Apart (cells : List ℕ) (w : ℕ) (firsts ends : List ℕ) (from to : ℕ) : Type 0 where
-  pub before : (i j : ℕ) → i < from → j < 4 → getD cells i 0 + 4 ≤ getD firsts j 0
-  pub behind : (i j : ℕ) → to ≤ i → i < w → j < 4 → getD ends j 0 ≤ getD cells i 0
+pub record Apart (cells : List ℕ) (w : ℕ) (highs : List ℕ) (from to : ℕ) : Type 0 where
+  pub before : (i j : ℕ) → i < from → j < 4 → getD cells i 0 + 4 ≤ getD highs j 0
+  pub behind : (i j : ℕ) → to ≤ i → i < w → j < 4 → getD highs (j + 4) 0 ≤ getD cells i 0
 
 -- the sixteen control values of the cell in column c and row k
 pub record CellBelow (stage : ℤ) (m : ℕ) (lattice : List ℤ) (c k : ℕ) : Type 0 where

@@ -69,7 +69,7 @@ fn row_high(lattice: &[i64], m: usize, left: usize, right: usize, t: usize, stag
     }
 }
 
-// The four lattice rows of cell row k looked at; those before next are already.
+// The four lattice rows of cell row k looked at; those before next are already. Row t has what of it is high at places t mod 4 and t mod 4 + 4.
 pub fn look(
     lattice: &[i64],
     m: usize,
@@ -78,18 +78,17 @@ pub fn look(
     k: usize,
     next: usize,
     stage: i64,
-    firsts: &mut [usize; 4],
-    ends: &mut [usize; 4],
+    highs: &mut [usize; 8],
 )
-    requires { ⌜ (left ≤ right) × (right ≤ m + 3) × ((k + 4) * (m + 3) ≤ length (now lattice)) × (next ≤ k + 4) × RowsBelow stage m (now lattice) left right next next (now firsts) (now ends) ⌝ }
-    ensures { λ _. ⌜ RowsBelow stage m (now (lattice .entry)) left right (k + 4) (k + 4) (now (firsts .exit)) (now (ends .exit)) ⌝ }
+    requires { ⌜ (left ≤ right) × (right ≤ m + 3) × ((k + 4) * (m + 3) ≤ length (now lattice)) × (next ≤ k + 4) × RowsBelow stage m (now lattice) left right next next (now highs) ⌝ }
+    ensures { λ _. ⌜ RowsBelow stage m (now (lattice .entry)) left right (k + 4) (k + 4) (now (highs .exit)) ⌝ }
 {
     let last = k + 4;
     let mut t = machine::greater(next, k);
     while t < last {
         let high = row_high(lattice, m, left, right, t, stage);
-        firsts[t % 4] = high.first;
-        ends[t % 4] = high.end;
+        highs[t % 4] = high.first;
+        highs[t % 4 + 4] = high.end;
         t += 1;
     }
 }
@@ -125,21 +124,21 @@ fn due_to(cells: &[usize; 64], w: usize, end: usize) -> usize
 }
 
 // The columns that are left to work out in a row of cells, by what is above the stage in its four lattice rows: often none, which the last column's cell tells.
-pub fn due_columns(cells: &[usize; 64], w: usize, firsts: &[usize; 4], ends: &[usize; 4]) -> Due
+pub fn due_columns(cells: &[usize; 64], w: usize, highs: &[usize; 8]) -> Due
     requires { ⌜ (0 < w) × (w ≤ 64) × Rising (now cells) w ⌝ }
-    ensures { λ r. ⌜ (r .from ≤ w) × (r .to ≤ w) × Apart (now (cells .entry)) w (now (firsts .entry)) (now (ends .entry)) (r .from) (r .to) ⌝ }
+    ensures { λ r. ⌜ (r .from ≤ w) × (r .to ≤ w) × Apart (now (cells .entry)) w (now (highs .entry)) (r .from) (r .to) ⌝ }
 {
     let first = machine::lesser(
-        machine::lesser(firsts[0], firsts[1]),
-        machine::lesser(firsts[2], firsts[3]),
+        machine::lesser(highs[0], highs[1]),
+        machine::lesser(highs[2], highs[3]),
     );
     let last = cells[w - 1] + 4;
     if last <= first {
         return Due { from: w, to: w };
     }
     let end = machine::greater(
-        machine::greater(ends[0], ends[1]),
-        machine::greater(ends[2], ends[3]),
+        machine::greater(highs[4], highs[5]),
+        machine::greater(highs[6], highs[7]),
     );
     Due {
         from: due_from(cells, w, first),

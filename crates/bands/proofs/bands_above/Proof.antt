@@ -14,11 +14,11 @@ use Rattle.bands.proofs.bands_above.Statement.{statement}
 use Rattle.bands.proofs.bands_above.Tie as tie
 
 abbrev Inv-loop : tie.InvT-loop
-Inv-loop s rows lattice cells taps stage most ring₀ left right firsts₀ ends₀ seen₀ kept₀ j₀ ring firsts ends seen kept j =
-    (j ≤ rows) × Walked s lattice (toZ w64 stage) left right seen firsts ends kept ring j
+Inv-loop s rows lattice cells taps stage most ring₀ left right highs₀ seen₀ kept₀ j₀ ring highs seen kept j =
+    (j ≤ rows) × Walked s lattice (toZ w64 stage) left right seen highs kept ring j
 
 abbrev μ-loop : tie.MeasureT-loop
-μ-loop s rows lattice cells taps stage most ring₀ left right firsts₀ ends₀ seen₀ kept₀ j₀ ring firsts ends seen kept j = rows - j
+μ-loop s rows lattice cells taps stage most ring₀ left right highs₀ seen₀ kept₀ j₀ ring highs seen kept j = rows - j
 
 -- ---- a turn
 
@@ -38,7 +38,7 @@ module _ (c : tie.After-locate Inv-loop μ-loop) where
   in-grid : c .locate .result .cell < first .args .s .n
   in-grid = below (first .pre .0 .columns) (c .locate .ensures)
 
-  walked : let a = first .args in Walked (a .s) (a .lattice .now) (toZ w64 (ofZ w64 (a .stage))) (getD (a .cells .now) 0 0) (getD (a .cells .now) (a .s .w - 1) 0 + 4) (turn .before .loop .seen) (turn .before .loop .firsts) (turn .before .loop .ends) (turn .before .loop .kept) (turn .before .loop .ring) j
+  walked : let a = first .args in Walked (a .s) (a .lattice .now) (toZ w64 (ofZ w64 (a .stage))) (getD (a .cells .now) 0 0) (getD (a .cells .now) (a .s .w - 1) 0 + 4) (turn .before .loop .seen) (turn .before .loop .highs) (turn .before .loop .kept) (turn .before .loop .ring) j
   walked = turn .before .loop .inv .1
 
 -- ---- the needs
@@ -61,7 +61,7 @@ add-right c =
     omega (arith, span (p .0) (p .3) .1, p .0 .columns .grid .m-most)
 
 loop-holds : tie.Need-loop-holds Inv-loop μ-loop
-loop-holds c = (omega arith, unwalked _ _ _ _ _ _ _ _ refl refl (c .before .before .before .pre .4))
+loop-holds c = (omega arith, unwalked _ _ _ _ _ _ _ refl (c .before .before .before .pre .4))
 
 mul-locate : tie.Need-mul-locate Inv-loop μ-loop
 mul-locate c =
@@ -82,28 +82,28 @@ band-end-requires c κs = let p = first c .pre in (p .0 .columns, p .1, p .2, tu
 
 look-requires : tie.Need-look-requires Inv-loop μ-loop
 look-requires c κs =
-    let at = c .before .before .before in
+    let at = c .before .before in
     let p = first at .pre in
     let w = walked at in
     let across = span (p .0) (p .3) in
     (across .0, across .1, rows-stored (p .0) _ (in-grid at), omega (arith, w .seen-most (j at) (omega arith), at .locate .ensures .cell-is), w .rows)
 
 add-seen : tie.Need-add-seen Inv-loop μ-loop
-add-seen c = let at = c .before .before .before .before in omega (arith, in-grid at, first at .pre .0 .columns .grid .n-most)
+add-seen c = let at = c .before .before .before in omega (arith, in-grid at, first at .pre .0 .columns .grid .n-most)
 
 due-columns-requires : tie.Need-due-columns-requires Inv-loop μ-loop
 due-columns-requires c κs =
-    let p = first (c .before .before .before .before .before .before) .pre in
+    let p = first (c .before .before .before .before) .pre in
     (p .3, p .0 .columns .width, rising (p .0))
 
 -- ---- what is known of a band, once its due columns are
 
 module _ (d : tie.After-due-columns Inv-loop μ-loop) where
   abbrev looked : tie.After-look Inv-loop μ-loop
-  looked = d .before .before .before
+  looked = d .before .before
 
   abbrev ended : tie.After-band-end Inv-loop μ-loop
-  ended = looked .before .before .before
+  ended = looked .before .before
 
   abbrev spot : tie.After-locate Inv-loop μ-loop
   spot = ended .before

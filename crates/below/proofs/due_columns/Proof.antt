@@ -12,8 +12,8 @@ module _ (c : tie.After-lesser3) where
   abbrev start : tie.Start
   start = c .before .before .before .before .before .before .before
 
-  least : (j : ℕ) → j < 4 → c .lesser3 .result ≤ getD (start .args .firsts .now) j 0
-  least = four-least (start .args .firsts .now) (c .before .before .before .before .lesser .ensures) (c .before .lesser2 .ensures) (c .lesser3 .ensures)
+  least : (j : ℕ) → j < 4 → c .lesser3 .result ≤ getD (start .args .highs .now) j 0
+  least = four-least (start .args .highs .now) (c .before .before .before .before .lesser .ensures) (c .before .lesser2 .ensures) (c .lesser3 .ensures)
 
   last-inside : start .args .w - 1 < start .args .w
   last-inside = omega (arith, start .pre .0)
@@ -102,7 +102,7 @@ returns-2 c =
       to .0,
       record {
         before = λ i j h l. omega (arith, from .1 i h, least k j l);
-        behind = λ i j h n l. omega (arith, to .1 i h n, four-most (start k .args .ends .now) (most1 .greater .ensures) (most2 .greater2 .ensures) (most .greater3 .ensures) j l);
+        behind = λ i j h n l. omega (arith, to .1 i h n, four-most (start k .args .highs .now) (most1 .greater .ensures) (most2 .greater2 .ensures) (most .greater3 .ensures) j l);
       },
     )
 

@@ -11,10 +11,10 @@ use Rattle.below.proofs.look.Statement.{statement}
 use Rattle.below.proofs.look.Tie as tie
 
 abbrev Inv-loop : tie.InvT-loop
-Inv-loop lattice m left right k next stage firsts₀ ends₀ last t₀ firsts ends t = (t ≤ last) × RowsBelow (toZ w64 stage) m lattice left right last t firsts ends
+Inv-loop lattice m left right k next stage highs₀ last t₀ highs t = (t ≤ last) × RowsBelow (toZ w64 stage) m lattice left right last t highs
 
 abbrev μ-loop : tie.MeasureT-loop
-μ-loop lattice m left right k next stage firsts₀ ends₀ last t₀ firsts ends t = last - t
+μ-loop lattice m left right k next stage highs₀ last t₀ highs t = last - t
 
 add-last : tie.Need-add-last Inv-loop μ-loop
 add-last c = omega (arith, c .pre .2, c .good)
@@ -33,17 +33,20 @@ row-high-requires c κs =
     let s = c .before .before .before in
     (s .pre .0, omega (arith, s .pre .2), row-stored (s .args .m) _ _ (c .loop-test .taken) (s .pre .1) (s .pre .2))
 
-mul-firsts : tie.Need-mul-firsts Inv-loop μ-loop
-mul-firsts c = omega arith
+mul-highs : tie.Need-mul-highs Inv-loop μ-loop
+mul-highs c = omega arith
 
-element-write-firsts : tie.Need-element-write-firsts Inv-loop μ-loop
-element-write-firsts c = omega arith
+element-write-highs : tie.Need-element-write-highs Inv-loop μ-loop
+element-write-highs c = omega arith
 
-mul-ends : tie.Need-mul-ends Inv-loop μ-loop
-mul-ends c = omega arith
+add-highs : tie.Need-add-highs Inv-loop μ-loop
+add-highs c = omega arith
 
-element-write-ends : tie.Need-element-write-ends Inv-loop μ-loop
-element-write-ends c = omega arith
+mul-highs-2 : tie.Need-mul-highs-2 Inv-loop μ-loop
+mul-highs-2 c = omega arith
+
+element-write-highs-2 : tie.Need-element-write-highs-2 Inv-loop μ-loop
+element-write-highs-2 c = omega arith
 
 add-t : tie.Need-add-t Inv-loop μ-loop
 add-t c = omega arith
@@ -70,10 +73,11 @@ look-spec =
     greater-requires
     loop-holds
     row-high-requires
-    mul-firsts
-    element-write-firsts
-    mul-ends
-    element-write-ends
+    mul-highs
+    element-write-highs
+    add-highs
+    mul-highs-2
+    element-write-highs-2
     add-t
     loop-less
     loop-again
