@@ -4,7 +4,7 @@ use mathlib.Core.Logic.{_↔_}
 use mathlib.Core.Bool.{true, false}
 use mathlib.Core.List.{List}
 use Prim.Native.Nat.{ℕ, _+_, _-_, _*_, _/_, _%_, _^_, _≤_, _<_}
-use native.Mathlib.Nat.{mul-zero, mul-comm, mul-le-mul-right, mul-add-div-right, mul-add-mod-self-right, mod-eq-of-lt, mod-lt, div-eq-of-lt, div-lt-iff-lt-mul}
+use native.Mathlib.Nat.{mul-comm, mul-le-mul-right, mul-add-div-right, mul-add-mod-self-right, mod-eq-of-lt, mod-lt, div-eq-of-lt, div-lt-iff-lt-mul}
 use native.Mathlib.Decide.{decLt}
 use native.Mathlib.Omega.{arith}
 use lib.IntN.{ℤ}
@@ -13,7 +13,7 @@ use Rattle.rules.specs.Grid.{control}
 use Rattle.rules.specs.Rounding.{near}
 use Rattle.rules.specs.Surface.{denominator, height}
 use Rattle.rules.specs.Calls.{Nodes, nodesAt, nodeX, nodeY, nodeHeight}
-use Rattle.rules.specs.Above.{above, anyOf, anyAbove}
+use Rattle.rules.specs.Above.{anyAbove}
 use Rattle.rules.specs.Laws.Above.{anyOf-some, anyOf-none, above-yes, above-no}
 use Rattle.strips.specs.Strips.{stripAt, StripInside}
 use Rattle.strips.specs.Reading.{strip-inside, strip-width}

@@ -2,7 +2,6 @@
 -- a no has none; an empty rectangle is no; no is no at every higher stage, and where no control value is above the stage.
 use mathlib.Core.Path.{_≡_, refl, sym, ap, _∙_}
 use mathlib.Core.Bool.{Bool, true, false}
-use mathlib.Core.Option.{none}
 use mathlib.Core.List.{List}
 use Prim.Native.Nat.{ℕ, _+_, _*_, _≤_, _<_}
 use lib.IntN.{ℤ, pos, natAbs}
@@ -19,7 +18,7 @@ use Rattle.rules.specs.Laws.Above.{anyOf-same, anyOf-found, anyOf-each, yes-abo
 use Rattle.answers.specs.CountTold as counted
 use Rattle.answers.specs.declared.CountTold.{CountTold}
 use Rattle.heights.specs.Promises.{height-passed}
-use Rattle.raster.specs.Promises.{node-accepted, many, entry-height}
+use Rattle.raster.specs.Promises.{node-accepted, many, room-lent, entry-height}
 use Rattle.above.specs.Told.{told}
 use Rattle.above.specs.declared.Inspected.{Inspected}
 
@@ -30,23 +29,25 @@ module _ (m n U : ℕ) (l : List ℤ) (g : Nodes) where
   -- a call at this stage
   module _ (stage : ℤ) (r : Inspected) (rules : told r ≡ aboveAnswer m n U l g stage) where
     -- "equal to the full raster's answer": a raster of the same nodes, and the slice that it leaves
-    module _ (d : List ℤ) (room : count ≤ length d) (t : CountTold) (after : List ℤ) (raster : outcome (counted.told t) after ≡ rasterCall m n U l g d) (staged : natAbs stage ≤ limit) where
-      same-checks : aboveCheck m n U l g stage ≡ rasterCheck m n U l g d
-      same-checks = raster-check m n U l g stage d room (stage-passes stage staged)
+    module _ (d : List ℤ) (t : CountTold) (after : List ℤ) (raster : outcome (counted.told t) after ≡ rasterCall m n U l g d) (staged : natAbs stage ≤ limit) where
+      same-checks : count ≤ length d → aboveCheck m n U l g stage ≡ rasterCheck m n U l g d
+      same-checks room = raster-check m n U l g stage d room (stage-passes stage staged)
 
       -- yes where some height in the slice is above the stage
       pub as-raster : (q : ℕ) → counted.told t ≡ accepted q → told r ≡ accepted (anyOf q (λ i. above stage (getD after i (pos 0))))
       unfolding aboveAnswer anyAbove rasterCall
       as-raster q is =
-          let fine = same-checks ∙ call-unrefused (rasterCheck m n U l g d) count _ d (counted.told t) after raster q is in
+          let nodes-all = many m n U l g d t after raster q is in
+          let room : count ≤ length d = rw nodes-all (room-lent m n U l g d t after raster q is) in
+          let fine = same-checks room ∙ call-unrefused (rasterCheck m n U l g d) count _ d (counted.told t) after raster q is in
           let heights = anyOf-same q _ _ (λ i h. ap (above stage) (entry-height m n U l g d t after raster q is i h)) in
-          rules ∙ sym (none-answer _ fine (heights ∙ ap (λ q. anyOf q (λ i. above stage (nodeHeight m n U l g i))) (sym (many m n U l g d t after raster q is))))
+          rules ∙ sym (none-answer _ fine (heights ∙ ap (λ q. anyOf q (λ i. above stage (nodeHeight m n U l g i))) (sym nodes-all)))
 
-      -- the same refusal, with the same place
-      pub refused-as-raster : (x : Refusal) → counted.told t ≡ refused x → told r ≡ refused x
+      -- the same refusal, with the same place, where there is room for the nodes
+      pub refused-as-raster : count ≤ length d → (x : Refusal) → counted.told t ≡ refused x → told r ≡ refused x
       unfolding aboveAnswer rasterCall
-      refused-as-raster x is =
-          rules ∙ sym (some-answer _ (same-checks ∙ call-refusal (rasterCheck m n U l g d) count _ d (counted.told t) after raster x is))
+      refused-as-raster room x is =
+          rules ∙ sym (some-answer _ (same-checks room ∙ call-refusal (rasterCheck m n U l g d) count _ d (counted.told t) after raster x is))
 
     -- an answer
     module _ (b : Bool) (is : told r ≡ accepted b) where

@@ -2,20 +2,18 @@
 use mathlib.Core.Path.{_≡_}
 use mathlib.Core.List.{List}
 use Prim.Native.Nat.{ℕ, _+_, _-_, _*_, _%_, _^_, _≤_, _<_}
-use native.Mathlib.Nat.{mul-le-mul-left, mul-le-mul-right, mul-comm, le-trans}
+use native.Mathlib.Nat.{mul-le-mul-left, mul-le-mul-right, mul-comm}
 use native.Mathlib.Decide.{decLt}
 use native.Mathlib.Omega.{arith}
 use lib.IntN.{ℤ}
 use lib.ListN.{length, getD}
 use lib.Pow.{pow-pos}
-use lib.Signed.{_≤ℤ_}
 use Rattle.rules.specs.Grid.{controls, control}
 use Rattle.rules.specs.Laws.Basis.{cell-below, cell-mono}
 use Rattle.rules.specs.Laws.Surface.{height-most}
-use Rattle.basis.specs.Weighing.{Grounded}
 use Rattle.below.specs.Below.{RowsBelow, Rising, Apart, CellsBelow}
 use Rattle.below.specs.declared.Due.{Due}
-use Rattle.strips.specs.Strips.{columnX, StripInside, Tapped, Ringed, rowCell, heightAt}
+use Rattle.strips.specs.Strips.{columnX, Tapped, Ringed, rowCell}
 use Rattle.strips.specs.Reading.{none-ringed}
 use Rattle.strips.specs.declared.Strip.{Strip}
 use Rattle.bands.specs.Bands.{RowsInside, Band, NodeAbove, NodesBelow, Threshold}

@@ -19,7 +19,7 @@ use Rattle.strips.specs.declared.Strip.{Strip}
 pub record RowsInside (s : Strip) (rows : ℕ) : Type 0 where
   pub inside : (j : ℕ) → j < rows → s .y0 + s .step * j ≤ 2 ^ s .e * s .n
 
--- rows start to end - 1 lie in cell row `cell`
+-- rows `start` to `end` - 1 lie in cell row `cell`
 pub record Band (s : Strip) (cell start end : ℕ) : Type 0 where
   pub one : (j : ℕ) → start ≤ j → j < end → rowCell s j ≡ cell
 
@@ -36,7 +36,7 @@ said-yes y = record { yes = λ e. y; no = λ e. absurd (true≢false e) }
 pub said-no : {Yes No : Type 0} → No → Decided Yes No false
 said-no n = record { yes = λ e. absurd (false≢true e); no = λ e. n }
 
--- a node of rows a to b - 1 and of the strip's columns from to to - 1 is above the stage
+-- a node of rows a to b - 1 and of the strip's columns `from` to `to` - 1 is above the stage
 pub record NodeAbove (s : Strip) (lattice : List ℤ) (stage : ℤ) (a b from to : ℕ) : Type 0 where
   pub j : ℕ
   pub i : ℕ

@@ -10,7 +10,7 @@ use basis::Basis;
 use below::Due;
 use strips::Strip;
 
-// What the ring holds: at columns from to to - 1, the sums of the four lattice rows before next.
+// What the ring holds: at columns `from` to `to` - 1, the sums of the four lattice rows before next.
 pub struct Kept {
     pub from: usize,
     pub to: usize,
@@ -81,7 +81,7 @@ fn refill(
     }
 }
 
-// Whether a node of one row has a y sum above `most`, in columns from to to - 1.
+// Whether a node of one row has a y sum above `most`, in columns `from` to `to` - 1.
 fn row_above(ring: &[i64; 256], cell: usize, b: Basis, from: usize, to: usize, most: i64) -> bool
     requires { ⌜ (cell ≤ 512) × (weightSize b ≤ 805_306_368) × (to ≤ 64) × ((i : ℕ) → from ≤ i → i < to → RingInRange cell i (now ring)) ⌝ }
     ensures { λ r. ⌜ SumsDecided b (now (ring .entry)) cell from to most r ⌝ }
@@ -97,7 +97,7 @@ fn row_above(ring: &[i64; 256], cell: usize, b: Basis, from: usize, to: usize, m
     false
 }
 
-// Whether a node of rows start to end - 1 has, which all lie in cell row `cell`.
+// Whether a node of rows `start` to `end` - 1 has, which all lie in cell row `cell`.
 fn band_above(
     s: Strip,
     ring: &[i64; 256],

@@ -7,11 +7,11 @@ use lib.ListN.{length, getD}
 use lib.Signed.{_≤ℤ_}
 use Rattle.rules.specs.Grid.{control}
 
--- those at places q to end - 1
+-- those at places q to `end` - 1
 pub record ValuesBelow (stage : ℤ) (values : List ℤ) (q end : ℕ) : Type 0 where
   pub low : (i : ℕ) → q ≤ i → i < end → getD values i (pos 0) ≤ℤ stage
 
--- of lattice row t, in columns left to right - 1, those before column `first` and from column `end` on
+-- of lattice row t, in columns `left` to `right` - 1, those before column `first` and from column `end` on
 pub record RowBelow (stage : ℤ) (m : ℕ) (lattice : List ℤ) (left right t first end : ℕ) : Type 0 where
   pub before : (s : ℕ) → left ≤ s → s < first → control m lattice s t ≤ℤ stage
   pub behind : (s : ℕ) → end ≤ s → s < right → control m lattice s t ≤ℤ stage

@@ -6,7 +6,7 @@ ghost use Prim.Native.Nat.{ℕ, _+_, _*_, _≤_, _<_};
 ghost use lib.ListN.{length, getD};
 ghost use Rattle.below.specs.Below.{ValuesBelow, RowBelow, RowsBelow, Rising, Apart};
 
-// The part of a lattice row that has values above the stage: columns first to end - 1; what lies outside is at or below it.
+// The part of a lattice row that has values above the stage: columns `first` to `end` - 1; what lies outside is at or below it.
 pub struct High {
     pub first: usize,
     pub end: usize,
@@ -18,7 +18,7 @@ pub struct Due {
     pub to: usize,
 }
 
-// The first of the values at places q to end - 1 that is above the stage, or end.
+// How far the values from place q on are at or below the stage: the first that is above, or `end`.
 fn first_high(lattice: &[i64], q: usize, end: usize, stage: i64) -> usize
     requires { ⌜ (q ≤ end) × (end ≤ length (now lattice)) ⌝ }
     ensures { λ r. ⌜ (q ≤ r) × (r ≤ end) × ValuesBelow stage (now (lattice .entry)) q r ⌝ }
@@ -33,7 +33,7 @@ fn first_high(lattice: &[i64], q: usize, end: usize, stage: i64) -> usize
     end
 }
 
-// One past the last of them that is, or q.
+// From where on the values before place `end` are: one past the last that is above, or q.
 fn past_high(lattice: &[i64], q: usize, end: usize, stage: i64) -> usize
     requires { ⌜ (q ≤ end) × (end ≤ length (now lattice)) ⌝ }
     ensures { λ r. ⌜ (q ≤ r) × (r ≤ end) × ValuesBelow stage (now (lattice .entry)) r end ⌝ }
@@ -48,7 +48,7 @@ fn past_high(lattice: &[i64], q: usize, end: usize, stage: i64) -> usize
     q
 }
 
-// What of lattice row t is above the stage, in columns left to right - 1.
+// What of lattice row t is above the stage, in columns `left` to `right` - 1.
 fn row_high(lattice: &[i64], m: usize, left: usize, right: usize, t: usize, stage: i64) -> High
     requires { ⌜ (left ≤ right) × (m + 3 ≤ length (now lattice)) × (t * (m + 3) + right ≤ length (now lattice)) ⌝ }
     ensures { λ r. ⌜ RowBelow stage m (now (lattice .entry)) left right t (r .first) (r .end) ⌝ }

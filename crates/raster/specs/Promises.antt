@@ -86,10 +86,11 @@ module _ (m n U : ℕ) (l : List ℤ) (g : Nodes) (d : List ℤ) where
     written = call-after (rasterCheck m n U l g d) _ _ d (told r) after rules q is ∙ ap (λ v. over (tabulate v heightAt) d) many
 
     -- and the slice has a place for each
+    pub room-lent : q ≤ length d
+    room-lent = rw (← many) (leb→le (g .across * g .down) (length d) (all-passed passed .room))
+
     pub entries-held : q ≤ length after
-    entries-held =
-        let fits : q ≤ length d = rw (← many) (leb→le (g .across * g .down) (length d) (all-passed passed .room)) in
-        rw (written, length-over (tabulate q heightAt) d (rw (length-tabulate q heightAt) fits)) fits
+    entries-held = rw (written, length-over (tabulate q heightAt) d (rw (length-tabulate q heightAt) room-lent)) room-lent
 
     -- entry i of the slice is the height at node i
     pub entry-height : (i : ℕ) → i < q → getD after i (pos 0) ≡ nodeHeight m n U l g i

@@ -15,10 +15,11 @@ unfoldable pub anyOf : ℕ → (ℕ → Bool) → Bool
 anyOf zero t = false
 anyOf (suc n) t = anyOf n t || t n
 
+-- a height that stands above the stage; one at the stage does not
 unfoldable pub above : ℤ → ℤ → Bool
 above stage height = ltZ stage height
 
--- "Answer yes or no for a rectangle of nodes, equal to the full raster's answer": yes where some node stands above
+-- "Answer yes or no for a rectangle of nodes, equal to the full raster's answer": yes where some node stands above, so "an empty rectangle is no"
 unfoldable pub anyAbove : ℕ → ℕ → ℕ → List ℤ → Nodes → ℤ → Bool
 anyAbove m n U lattice g stage = anyOf (g .across * g .down) (λ q. above stage (nodeHeight m n U lattice g q))
 

@@ -62,7 +62,7 @@ pub record Tapped (s : Strip) (lattice : List ℤ) (cells : List ℕ) (taps : Li
 abbrev pub columnSum : Strip → List ℤ → ℕ → ℕ → ℤ
 columnSum s lattice r i = rowHeight (2 ^ s .e) (s .m) lattice (columnX s i) r
 
--- of the four lattice rows before last, the ring has the sums of those before next, at columns from to to - 1
+-- of the four lattice rows before last, the ring has the sums of those before next, at columns `from` to `to` - 1
 pub record Ringed (s : Strip) (lattice : List ℤ) (from to last next : ℕ) (ring : List ℤ) : Type 0 where
   pub whole : length ring ≡ 256
   pub sum : (r i : ℕ) → last ≤ r + 4 → r < next → from ≤ i → i < to → getD ring (r % 4 * 64 + i) (pos 0) ≡ columnSum s lattice r i

@@ -112,7 +112,7 @@ fn tap_sum(
     basis::line_height(lattice, r * (s.m + 3) + c, 1, b, s.e)
 }
 
-// The ring with lattice row r summed too, at columns from to to - 1.
+// The ring with lattice row r summed too, at columns `from` to `to` - 1.
 fn row_sums(
     s: Strip,
     lattice: &[i64],
@@ -134,7 +134,7 @@ fn row_sums(
     }
 }
 
-// The ring with lattice rows next to last - 1 summed too, at columns from to to - 1.
+// The ring with lattice rows next to last - 1 summed too, at columns `from` to `to` - 1.
 pub fn advance(
     s: Strip,
     lattice: &[i64],

@@ -1,6 +1,4 @@
 -- `bands::band_end` meets its contract: the last row of cells has all rows from j on, any other those before its last position.
-use mathlib.Core.Path.{_≡_}
-use Prim.Native.Nat.{_+_, _≤_}
 use native.Mathlib.Nat.{le-refl}
 use native.Mathlib.Omega.{arith}
 use borrow.Author.Needs.{needs}

@@ -1,10 +1,8 @@
 -- `bands::refill` meets its contract: the three parts of the due columns, each summed without touching the others.
 use mathlib.Core.Path.{refl}
 use mathlib.Core.Logic.{inl, inr}
-use mathlib.Core.List.{List}
 use native.Mathlib.Omega.{arith}
 use borrow.Author.Needs.{needs}
-use lib.IntN.{ℤ}
 use Rattle.strips.specs.Reading.{spared-ringed}
 use Rattle.bands.proofs.Ring.{ring-stays, no-row, side-by-side}
 use Rattle.bands.proofs.refill.Statement.{statement}

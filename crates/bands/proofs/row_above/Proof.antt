@@ -1,6 +1,6 @@
 -- `bands::row_above` meets its contract. The loop's invariant: the sums of the columns before i are not above `most`.
 use mathlib.Core.Path.{refl}
-use Prim.Native.Nat.{_-_, _≤_, _<_}
+use Prim.Native.Nat.{_-_, _≤_}
 use native.Mathlib.Omega.{arith}
 use lib.Signed.{_≤ℤ_}
 use mir.Syntax.{w64}

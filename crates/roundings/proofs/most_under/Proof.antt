@@ -1,7 +1,6 @@
 -- `roundings::most_under` meets its contract: 6U³·z + 3U³ is the least sum whose near is above z, and one less the greatest whose near is not.
-use mathlib.Core.Path.{_≡_}
 use mathlib.Core.Logic.{_↔_, Iff·trans}
-use Prim.Native.Nat.{ℕ, _*_, _^_, _≤_, _<_}
+use Prim.Native.Nat.{ℕ, _*_, _^_, _≤_}
 use native.Mathlib.Nat.{mul-le-mul-left}
 use native.Mathlib.Omega.{arith}
 use borrow.Author.Needs.{needs}
@@ -17,7 +16,7 @@ use Rattle.roundings.proofs.Over.{denominator-power}
 use Rattle.roundings.proofs.most_under.Statement.{statement}
 use Rattle.roundings.proofs.most_under.Tie as tie
 
-one-less : (h : ℕ) (v z : ℤ) → ((pos (2 * h) *ℤ z +ℤ pos h) ≤ℤ v) ↔ ((pos (2 * h) *ℤ z +ℤ (pos h -ℤ pos 1)) <ℤ v)
+one-less : (h : ℕ) (v z : ℤ) → ((pos (2 * (2 * h)) *ℤ z +ℤ pos (2 * h)) ≤ℤ (pos 2 *ℤ v)) ↔ ((pos (2 * h) *ℤ z +ℤ (pos h -ℤ pos 1)) <ℤ v)
 one-less h v z = rw (split v, split z) (simp whole (omega arith))
 
 -- ---- the numbers of the code
@@ -43,7 +42,7 @@ module _ (z : ℤ) (e : ℕ) (size : natAbs z ≤ 4_000_000_000) (low : e ≤ 9)
   most = number (plus (read tt (product .held)) (read tt (less-one .held)))
 
   above-most : (v : ℤ) → (z <ℤ near v (denominator (2 ^ e))) ↔ ((pos (2 * h) *ℤ z +ℤ (pos h -ℤ pos 1)) <ℤ v)
-  above-most v = rw (denominator-power e) (Iff·trans (near-above v z h (omega (arith, pow-pos (3 * e)))) (one-less h v z))
+  above-most v = rw (denominator-power e) (Iff·trans (near-above v z (2 * h) (omega (arith, pow-pos (3 * e)))) (one-less h v z))
 
 -- ---- the needs
 

@@ -93,7 +93,7 @@ counts-passed across down e =
     let p = and-yes wide high (required (wide && high) size e) in
     (leb→le across 8_193 (p .0), leb→le down 8_193 (p .1))
 
--- ---- a lattice
+-- ---- a stage, and a lattice
 
 pub stage-passed : (stage : ℤ) → stageCheck stage ≡ none → natAbs stage ≤ limit
 unfolding stageCheck

@@ -118,12 +118,12 @@ near-even v d h = sym (nearest-unique v (2 * d) n (omega arith) (record { distan
     below : (v n : ℤ) → (v +ℤ pos d) <ℤ (pos (2 * d) *ℤ (n +ℤ pos 1)) → (pos 2 *ℤ v) <ℤ ((pos 2 *ℤ n +ℤ pos 1) *ℤ pos (2 * d))
     below v n = rw (split v, split n) (simp whole (omega arith))
 
--- so it is above z exactly from v / 2d = z + 1/2 on
-pub near-above : (v z : ℤ) (d : ℕ) → 0 < d → (z <ℤ near v (2 * d)) ↔ ((pos (2 * d) *ℤ z +ℤ pos d) ≤ℤ v)
-near-above v z d h =
-    rw (near-even v d h) (Iff·trans (Iff·symm (suc-≤ℤ z _)) (Iff·trans (below-floor (v +ℤ pos d) (z +ℤ pos 1) (2 * d) (omega arith)) (half v z)))
+-- it is above z exactly from v / d = z + 1/2 on
+pub near-above : (v z : ℤ) (d : ℕ) → 0 < d → (z <ℤ near v d) ↔ ((pos (2 * d) *ℤ z +ℤ pos d) ≤ℤ (pos 2 *ℤ v))
+unfolding near
+near-above v z d h = Iff·trans (Iff·symm (suc-≤ℤ z _)) (Iff·trans (below-floor (pos 2 *ℤ v +ℤ pos d) (z +ℤ pos 1) (2 * d) (omega arith)) (half v z))
   where
-    half : (v z : ℤ) → ((pos (2 * d) *ℤ (z +ℤ pos 1)) ≤ℤ (v +ℤ pos d)) ↔ ((pos (2 * d) *ℤ z +ℤ pos d) ≤ℤ v)
+    half : (v z : ℤ) → ((pos (2 * d) *ℤ (z +ℤ pos 1)) ≤ℤ (pos 2 *ℤ v +ℤ pos d)) ↔ ((pos (2 * d) *ℤ z +ℤ pos d) ≤ℤ (pos 2 *ℤ v))
     half v z = rw (split v, split z) (simp whole (omega arith))
 
 -- ---- what follows from the distance alone, however an exact half is treated
