@@ -22,7 +22,7 @@ static int read_stage(const char *word, int64_t *stage)
     return DONE;
 }
 
-/* Each call looks over the whole lattice, and then works heights out only where control values are above the stage. */
+/* Each call looks over the whole lattice, and passes over most cells with no control value above the stage. */
 static int try_stage(const curlew_cells *cells, const int64_t *lattice, int64_t stage)
 {
     const curlew_above answer = curlew_any_above(cells->m, cells->n, UNIT, lattice, CURLEW_CONTROLS(cells->m, cells->n), 0, 0, 1,

@@ -162,8 +162,8 @@ curlew_count curlew_raster(size_t m, size_t n, size_t unit, const int64_t *latti
 /*
  * Whether any ground stands above a stage in range, in micrometres: 1 exactly if some node of the raster with the same x0, y0, step,
  * columns and rows has a height above the stage, else 0. A height at the stage is not above it; no columns or no rows is 0. Nothing
- * is written, and no output is lent. Cells whose sixteen control values are at or below the stage cost little, and the walk ends at
- * the first node found above.
+ * is written, and no output is lent. Most cells whose sixteen control values are at or below the stage are passed over, and the walk
+ * ends at the first node found above.
  * Refuses 1, 2, 8, 4, 6, 5: 6 for the stage first, with place 0, then for the control values, of which the first has place 0 too; 5
  * (the first node outside, as of a raster) before any height, so also where an earlier node stands above. Each call scans the whole
  * lattice once for 6.
