@@ -1,5 +1,6 @@
 -- The fits that documents 01 and 02 name as accepted: a lone point, whose ground is level at its height throughout; no points, all zero; and between them
--- document 01's rows of a point of 9, as a hill beside a hollow. Levels are computed in f64. So there are fits that the rules accept.
+-- document 01's rows of a point of 9, as a hill beside a hollow; and two points that disagree, each by its confidence. Levels are computed in f64. So there
+-- are fits that the rules accept.
 use mathlib.Core.Path.{_≡_, refl, ap, ap₂, _∙_}
 use mathlib.Core.Option.{none}
 use mathlib.Core.List.{List, [], _∷_}
@@ -7,13 +8,13 @@ use Prim.Native.Nat.{ℕ, zero, suc, _+_, _-_, _*_, _/_, _%_, _≤_, _<_, zero-l
 use native.Mathlib.Decide.{decLt}
 use native.Mathlib.Numerals.{add-one}
 use native.Mathlib.Omega.{arith}
-use lib.IntN.{ℤ, pos, natAbs, _+ℤ_, _-ℤ_, +ℤ-idl, +ℤ-invr}
+use lib.IntN.{ℤ, pos, negℤ, natAbs, _+ℤ_, _-ℤ_, +ℤ-idl, +ℤ-invr}
 use lib.Ieee.{lt, ofBits, add, mul, div, ofInt}
 use lib.ListN.{length, getD, replicate, getD-replicate, List·getD-eq-default, length-replicate}
 use Rattle.algebra.specs.Solver.{var, con, _⊞_, _⊠_, solve}
 use Rattle.algebra.specs.Table.{tabulate, over, tabulate-same, tabulate-replicate}
 use Rattle.rules.specs.Rounding.{floor, near}
-use Rattle.rules.specs.Grid.{limit, inRange, within, inside, cellsAt, unitAt, controls, control, store}
+use Rattle.rules.specs.Grid.{limit, inRange, confident, within, inside, cellsAt, unitAt, controls, control, store}
 use Rattle.rules.specs.Surface.{square, cube, numerator, denominator, cell, offset, weighted, along, height}
 use Rattle.rules.specs.Level.{basis, weight, addSquares, squares, noSums, grown, uses, touched, gathered, coefficient, signed, nearFloat, kept, settled, fittedAt}
 use Rattle.rules.specs.Refinement.{masked, finer, finer2, refined}
@@ -25,7 +26,7 @@ use Rattle.rules.specs.Laws.Rounding.{near-exact}
 use Rattle.rules.specs.Laws.Checks.{require-met, size-inRange, then-none, firstOf-all, size-rangeCheck}
 use Rattle.rules.specs.Laws.Base.{no-base}
 use Rattle.rules.specs.Laws.Passed.{Surveyed, surveyed-passes}
-use Rattle.rules.specs.Calls.{Lent, K, cellsCheck, hCheck, listsCheck, surveyCheck, pointCheck, pointsCheck, lentCheck, fitCheck, finest, results, cleared, fitEnd, fitCall}
+use Rattle.rules.specs.Calls.{Lent, K, cellsCheck, hCheck, listsCheck, surveyCheck, spotCheck, pointCheck, pointsCheck, lentCheck, fitCheck, finest, results, cleared, fitEnd, fitCall}
 
 -- n control values of 0
 abbrev zeros : ℕ → List ℤ
@@ -38,6 +39,10 @@ shifted-zeros n b =
     rw (length-replicate n (pos 0))
     (tabulate-same n _ (λ q. b) (λ q l. ap (λ v. v +ℤ b) (getD-replicate n q (pos 0) (pos 0) l) ∙ +ℤ-idl b) ∙ tabulate-replicate n b)
 
+-- n points of confidence 1, as all were before document 02's job 8
+abbrev pub ones : ℕ → List ℕ
+ones n = replicate n 1
+
 -- ---- the lone point
 
 -- one coarsest cell, one level
@@ -46,7 +51,7 @@ one = shape 1 1 0
 
 -- the lone point (0, 0, z)
 abbrev pub lone : ℤ → Survey
-lone z = survey (0 ∷ []) (0 ∷ []) (z ∷ [])
+lone z = survey (0 ∷ []) (0 ∷ []) (z ∷ []) (ones 1)
 
 -- what is left of it above its base, in f64: nothing
 record Level0 : Type 0 where
@@ -69,16 +74,16 @@ module _ (z : ℤ) where
 
   lone-lattice : singleLattice one (lone z) ≡ replicate 16 z
   unfolding singleLattice
-  lone-lattice = ap₂ shifted lone-base (ap (λ d. running one (survey (0 ∷ []) (0 ∷ []) d) 0) lone-difference ∙ level-0 .lattice) ∙ shifted-zeros 16 z
+  lone-lattice = ap₂ shifted lone-base (ap (λ d. running one (survey (0 ∷ []) (0 ∷ []) d (ones 1)) 0) lone-difference ∙ level-0 .lattice) ∙ shifted-zeros 16 z
 
   lone-residual : lastResiduals one (lone z) ≡ pos 0 ∷ []
   unfolding lastResiduals
-  lone-residual = ap (λ d. residuals one (survey (0 ∷ []) (0 ∷ []) d) 1) lone-difference ∙ level-0 .residual
+  lone-residual = ap (λ d. residuals one (survey (0 ∷ []) (0 ∷ []) d (ones 1)) 1) lone-difference ∙ level-0 .residual
 
   module _ (size : natAbs z ≤ limit) where
     points-fine : pointsCheck 16 1 1 (lone z) ≡ none
-    unfolding pointsCheck pointCheck inside firstOf require _then_
-    points-fine = require-met (inRange z) (range 0) (size-inRange z size)
+    unfolding pointsCheck pointCheck spotCheck inside confident within firstOf require _then_
+    points-fine = then-none _ _ (require-met (inRange z) (range 0) (size-inRange z size))
 
     difference-fine : differenceCheck (z ∷ []) ≡ none
     unfolding differenceCheck rangeCheck firstOf require _then_ inRange
@@ -87,7 +92,7 @@ module _ (z : ℤ) where
     figures-fine : inLevelsCheck one (lone z) ≡ none
     unfolding inLevelsCheck finalCheck columns rows cellsAt controls
     figures-fine =
-        then-none _ _ (ap (λ d. levelsCheck one (survey (0 ∷ []) (0 ∷ []) d)) lone-difference ∙ level-0 .fine)
+        then-none _ _ (ap (λ d. levelsCheck one (survey (0 ∷ []) (0 ∷ []) d (ones 1))) lone-difference ∙ level-0 .fine)
         ∙ size-rangeCheck 16 _ _ (λ q l. rw (lone-lattice, getD-replicate 16 q z (pos 0) l) size)
 
     -- "The lone point (0,0,9) now gives 9 throughout, and the lone point at 2,300,000,000 is accepted", and so is any height in range, whatever slices are
@@ -106,7 +111,7 @@ abbrev pub hill : Shape
 hill = shape 3 1 0
 
 abbrev pub hollow : Survey
-hollow = survey (0 ∷ 48 ∷ []) (0 ∷ 0 ∷ []) (pos 109 ∷ pos 91 ∷ [])
+hollow = survey (0 ∷ 48 ∷ []) (0 ∷ 0 ∷ []) (pos 109 ∷ pos 91 ∷ []) (ones 2)
 
 -- "rows 1 4 1 0, 4 16 4 0, 1 4 1 0, 0 0 0 0", and the same below 0
 abbrev row : ℕ → ℕ → List ℤ → List ℤ
@@ -124,8 +129,26 @@ hill-and-hollow = record { lattice = refl; residual = refl; accepted-levels = re
 -- so its fit is accepted, whatever slices are lent that are long enough
 pub hill-accepted : (lent : Lent) → lentCheck hill 2 lent ≡ none
     → fitCall hill hollow lent ≡ outcome (accepted (record { m = 3; n = 1 })) (cleared hill 2 (results hill hollow lent))
-unfolding fitCall fitEnd fitCheck surveyCheck cellsCheck hCheck listsCheck pointsCheck pointCheck differenceCheck differences shifted base nearMean total near floor tabulate rangeCheck within inside inRange columns rows cellsAt firstOf require _then_
+unfolding fitCall fitEnd fitCheck surveyCheck cellsCheck hCheck listsCheck pointsCheck pointCheck spotCheck confident differenceCheck differences shifted base nearMean total near floor tabulate rangeCheck within inside inRange columns rows cellsAt firstOf require _then_
 hill-accepted lent room = rw (room, hill-and-hollow .accepted-levels) refl
+
+-- ---- two points that disagree
+
+-- 0 and 4,000 at one place, about a base of 2,000, the second of three times the first one's confidence: the ground there is 3,000
+abbrev pub disputed : Survey
+disputed = survey (0 ∷ 0 ∷ []) (0 ∷ 0 ∷ []) (pos 0 ∷ pos 4_000 ∷ []) (1 ∷ 3 ∷ [])
+
+abbrev raisedRow : ℕ → ℕ → List ℤ → List ℤ
+raisedRow a b next = pos (2_000 + a) ∷ pos (2_000 + b) ∷ pos (2_000 + a) ∷ pos 2_000 ∷ next
+
+pub record Settled : Type 0 where
+  pub lattice : singleLattice one disputed ≡ raisedRow 111 444 (raisedRow 444 1_778 (raisedRow 111 444 (raisedRow 0 0 [])))
+  pub residual : lastResiduals one disputed ≡ negℤ (pos 3_000) ∷ pos 1_000 ∷ []
+  pub accepted-levels : inLevelsCheck one disputed ≡ none
+
+pub settled-by-confidence : Settled
+unfolding singleLattice lastResiduals inLevelsCheck finalCheck shifted differences base nearMean total running levelsCheck levelCheck quotientCheck residualCheck sumCheck rangeCheck lowered levelHeight height along weighted control level levelOf levelValue fittedAt gathered touched uses weight basis squares addSquares grown noSums coefficient settled kept nearFloat signed near floor orZero residuals store controls columns rows unitOf cellsAt unitAt tabulate pointsOf cell offset numerator denominator square cube inRange present require _then_ firstOf lt ofBits add mul div ofInt
+settled-by-confidence = record { lattice = refl; residual = refl; accepted-levels = refl }
 
 -- ---- no points
 

@@ -1,4 +1,4 @@
--- Fits that are refused once their points are in order, computed on the definitions: for a difference, a quotient, a residual, a sum of a level and a final
+-- Fits that are refused for their points, computed on the definitions: for a confidence, a difference, a quotient, a residual, a sum of a level and a final
 -- sum.
 use mathlib.Core.Path.{_≡_, refl, ap, _∙_}
 use mathlib.Core.Option.{none, some}
@@ -8,37 +8,51 @@ use lib.IntN.{ℤ, pos, negℤ}
 use lib.Ieee.{lt, ofBits, add, mul, div, ofInt}
 use Rattle.algebra.specs.Table.{tabulate}
 use Rattle.rules.specs.Rounding.{floor, near}
-use Rattle.rules.specs.Grid.{inRange, within, inside, cellsAt, unitAt, controls, control, store}
+use Rattle.rules.specs.Grid.{inRange, confident, within, inside, cellsAt, unitAt, controls, control, store}
 use Rattle.rules.specs.Surface.{square, cube, numerator, denominator, cell, offset, weighted, along, height}
 use Rattle.rules.specs.Level.{basis, weight, addSquares, squares, noSums, grown, uses, touched, gathered, coefficient, signed, nearFloat, kept, settled, fittedAt}
 use Rattle.rules.specs.Refinement.{masked, finer, finer2, refined}
 use Rattle.rules.specs.Fit.{Shape, shape, columns, rows, unitOf, Survey, survey, pointCount, pointsOf, valued, total, nearMean, base, shifted, differences}
 use Rattle.rules.specs.Fit.{levelValue, orZero, levelOf, levelHeight, lowered, raised, residuals, level, running, singleLattice}
 use Rattle.rules.specs.Fit.{present, quotientCheck, residualCheck, sumCheck, levelCheck, levelsCheck, differenceCheck, finalCheck, inLevelsCheck}
-use Rattle.rules.specs.Answers.{Refusal, Check, require, _then_, firstOf, rangeCheck, range, difference, quotient, residual, sum, refused, outcome}
-use Rattle.rules.specs.Calls.{Lent, cellsCheck, hCheck, listsCheck, surveyCheck, pointCheck, pointsCheck, lentCheck, fitCheck, cleared, fitEnd, fitCall}
+use Rattle.rules.specs.Answers.{Refusal, Check, require, _then_, firstOf, rangeCheck, range, confidence, difference, quotient, residual, sum, refused, outcome}
+use Rattle.rules.specs.Calls.{Lent, cellsCheck, hCheck, listsCheck, surveyCheck, spotCheck, pointCheck, pointsCheck, lentCheck, fitCheck, cleared, fitEnd, fitCall}
 use Rattle.rules.specs.Laws.Checks.{then-none, then-some}
 use Rattle.rules.specs.Laws.Fit.{first-sums}
 use Rattle.rules.specs.Laws.Refused.{earlyCheck, grouped, in-levels-only}
-use Rattle.computed_fits.specs.Accepted.{one}
+use Rattle.computed_fits.specs.Accepted.{ones, one}
 
 -- ---- a difference: "15 with the point's index and every slice left"
 
 -- three shots at one place, the first 8,000 metres above the others: their base is -1,333.333333 metres
 abbrev pub far : Survey
-far = survey (8 ∷ 8 ∷ 8 ∷ []) (8 ∷ 8 ∷ 8 ∷ []) (pos 4_000_000_000 ∷ negℤ (pos 4_000_000_000) ∷ negℤ (pos 4_000_000_000) ∷ [])
+far = survey (8 ∷ 8 ∷ 8 ∷ []) (8 ∷ 8 ∷ 8 ∷ []) (pos 4_000_000_000 ∷ negℤ (pos 4_000_000_000) ∷ negℤ (pos 4_000_000_000) ∷ []) (ones 3)
 
 pub difference-refused : (lent : Lent) → lentCheck one 3 lent ≡ none → fitCall one far lent ≡ outcome (refused (difference 0)) lent
-unfolding fitCall fitEnd fitCheck surveyCheck cellsCheck hCheck listsCheck pointsCheck pointCheck differenceCheck differences shifted base nearMean total near floor tabulate rangeCheck within inside inRange columns rows cellsAt firstOf require _then_
+unfolding fitCall fitEnd fitCheck surveyCheck cellsCheck hCheck listsCheck pointsCheck pointCheck spotCheck confident differenceCheck differences shifted base nearMean total near floor tabulate rangeCheck within inside inRange columns rows cellsAt firstOf require _then_
 difference-refused lent room = rw room refl
 
 -- every height is asked before any difference: the last one here is out of range, and the first is too far from the base as well
 abbrev pub past-range : Survey
-past-range = survey (8 ∷ 8 ∷ 8 ∷ []) (8 ∷ 8 ∷ 8 ∷ []) (pos 4_000_000_000 ∷ negℤ (pos 4_000_000_000) ∷ negℤ (pos 4_000_000_001) ∷ [])
+past-range = survey (8 ∷ 8 ∷ 8 ∷ []) (8 ∷ 8 ∷ 8 ∷ []) (pos 4_000_000_000 ∷ negℤ (pos 4_000_000_000) ∷ negℤ (pos 4_000_000_001) ∷ []) (ones 3)
 
 pub range-refused : (lent : Lent) → lentCheck one 3 lent ≡ none → fitCall one past-range lent ≡ outcome (refused (range 2)) lent
-unfolding fitCall fitEnd fitCheck surveyCheck cellsCheck hCheck listsCheck pointsCheck pointCheck within inside inRange columns rows cellsAt firstOf require _then_
+unfolding fitCall fitEnd fitCheck surveyCheck cellsCheck hCheck listsCheck pointsCheck pointCheck spotCheck confident within inside inRange columns rows cellsAt firstOf require _then_
 range-refused lent room = rw room refl
+
+-- ---- a confidence: "17 with the point's index for q = 0 in a lent list, after 6 in each point"
+
+-- and before any difference: the first point here is too far from the base
+pub confidence-refused : (lent : Lent) → lentCheck one 3 lent ≡ none
+    → fitCall one (record { xs = far .xs; ys = far .ys; zs = far .zs; qs = 255 ∷ 1 ∷ 0 ∷ [] }) lent ≡ outcome (refused (confidence 2)) lent
+unfolding fitCall fitEnd fitCheck surveyCheck cellsCheck hCheck listsCheck pointsCheck pointCheck spotCheck confident within inside inRange columns rows cellsAt firstOf require _then_
+confidence-refused lent room = rw room refl
+
+-- a height out of range comes before its point's confidence
+pub range-before-confidence : (lent : Lent) → lentCheck one 3 lent ≡ none
+    → fitCall one (record { xs = far .xs; ys = far .ys; zs = past-range .zs; qs = 255 ∷ 1 ∷ 0 ∷ [] }) lent ≡ outcome (refused (range 2)) lent
+unfolding fitCall fitEnd fitCheck surveyCheck cellsCheck hCheck listsCheck pointsCheck pointCheck spotCheck confident within inside inRange columns rows cellsAt firstOf require _then_
+range-before-confidence lent room = rw room refl
 
 -- ---- in the levels
 
@@ -57,7 +71,7 @@ levels-refuse a s d is e = then-some _ _ (ap (λ d. levelsCheck a (valued s d)) 
 
 -- a height and a depth at two corners: 2,500 metres from their base, and pulled 16/9 times as far
 abbrev pub corners : Survey
-corners = survey (0 ∷ 16 ∷ []) (0 ∷ 16 ∷ []) (pos 3_000_000_000 ∷ negℤ (pos 2_000_000_000) ∷ [])
+corners = survey (0 ∷ 16 ∷ []) (0 ∷ 16 ∷ []) (pos 3_000_000_000 ∷ negℤ (pos 2_000_000_000) ∷ []) (ones 2)
 
 record Corners : Type 0 where
   from-base : differences (corners .zs) ≡ pos 2_500_000_000 ∷ negℤ (pos 2_500_000_000) ∷ []
@@ -68,7 +82,7 @@ unfolding differences shifted base nearMean total levelsCheck levelCheck quotien
 corner-levels = record { from-base = refl; too-steep = refl }
 
 pub quotient-refused : (lent : Lent) → lentCheck one 2 lent ≡ none → fitCall one corners lent ≡ outcome (refused (quotient 0)) (cleared one 2 lent)
-unfolding differenceCheck rangeCheck surveyCheck cellsCheck hCheck listsCheck pointsCheck pointCheck within inside inRange columns rows cellsAt firstOf require _then_
+unfolding differenceCheck rangeCheck surveyCheck cellsCheck hCheck listsCheck pointsCheck pointCheck spotCheck confident within inside inRange columns rows cellsAt firstOf require _then_
 quotient-refused lent room =
     refused-call one corners lent (quotient 0) (rw (room, corner-levels .from-base) refl) (levels-refuse one corners _ (corner-levels .from-base) (corner-levels .too-steep))
 
@@ -76,7 +90,7 @@ quotient-refused lent room =
 
 -- a depth between two heights, 4,000 metres below their base, where the heights hold the surface above it
 abbrev pub pit : Survey
-pit = survey (0 ∷ 4 ∷ 8 ∷ []) (0 ∷ 4 ∷ 8 ∷ []) (pos 3_000_000_000 ∷ negℤ (pos 3_000_000_000) ∷ pos 3_000_000_000 ∷ [])
+pit = survey (0 ∷ 4 ∷ 8 ∷ []) (0 ∷ 4 ∷ 8 ∷ []) (pos 3_000_000_000 ∷ negℤ (pos 3_000_000_000) ∷ pos 3_000_000_000 ∷ []) (ones 3)
 
 abbrev pit-differences : List ℤ
 pit-differences = pos 2_000_000_000 ∷ negℤ (pos 4_000_000_000) ∷ pos 2_000_000_000 ∷ []
@@ -90,7 +104,7 @@ unfolding differences shifted base nearMean total levelsCheck levelCheck quotien
 pit-levels = record { from-base = refl; too-deep = refl }
 
 pub residual-refused : (lent : Lent) → lentCheck one 3 lent ≡ none → fitCall one pit lent ≡ outcome (refused (residual 0)) (cleared one 3 lent)
-unfolding differenceCheck rangeCheck surveyCheck cellsCheck hCheck listsCheck pointsCheck pointCheck within inside inRange columns rows cellsAt firstOf require _then_
+unfolding differenceCheck rangeCheck surveyCheck cellsCheck hCheck listsCheck pointsCheck pointCheck spotCheck confident within inside inRange columns rows cellsAt firstOf require _then_
 residual-refused lent room =
     refused-call one pit lent (residual 0) (rw (room, pit-levels .from-base) refl) (levels-refuse one pit _ (pit-levels .from-base) (pit-levels .too-deep))
 
@@ -135,7 +149,7 @@ module _ (s : Survey) (r : List ℤ) (c : Computed s r) where
 -- a height and a depth, which the finer level tells apart: a sum of it is 14 metres below the range, and is refused though their base of 100 metres would
 -- bring it back
 abbrev pub steep : Survey
-steep = survey (16 ∷ 0 ∷ []) (16 ∷ 0 ∷ []) (pos 2_600_000_000 ∷ negℤ (pos 2_400_000_000) ∷ [])
+steep = survey (16 ∷ 0 ∷ []) (16 ∷ 0 ∷ []) (pos 2_600_000_000 ∷ negℤ (pos 2_400_000_000) ∷ []) (ones 2)
 
 steep-differences : differences (steep .zs) ≡ pos 2_500_000_000 ∷ negℤ (pos 2_500_000_000) ∷ []
 unfolding differences shifted base nearMean total near floor tabulate
@@ -156,7 +170,7 @@ unfolding shifted masked finer finer2 refined raised control levelOf levelValue 
 with-base = refl
 
 pub sum-refused : (lent : Lent) → lentCheck two 2 lent ≡ none → fitCall two steep lent ≡ outcome (refused (sum 1)) (cleared two 2 lent)
-unfolding differenceCheck rangeCheck surveyCheck cellsCheck hCheck listsCheck pointsCheck pointCheck within inside inRange columns rows cellsAt firstOf require _then_
+unfolding differenceCheck rangeCheck surveyCheck cellsCheck hCheck listsCheck pointsCheck pointCheck spotCheck confident within inside inRange columns rows cellsAt firstOf require _then_
 sum-refused lent room =
     refused-call two steep lent (sum 1) (rw (room, steep-differences) refl) (levels-refuse two steep _ steep-differences (sum-out _ _ steep-levels))
 
@@ -164,7 +178,7 @@ sum-refused lent room =
 
 -- two corners, 1,000 metres above and below their base of 3,000
 abbrev pub crest : Survey
-crest = survey (0 ∷ 16 ∷ []) (0 ∷ 16 ∷ []) (pos 4_000_000_000 ∷ pos 2_000_000_000 ∷ [])
+crest = survey (0 ∷ 16 ∷ []) (0 ∷ 16 ∷ []) (pos 4_000_000_000 ∷ pos 2_000_000_000 ∷ []) (ones 2)
 
 abbrev crest-differences : List ℤ
 crest-differences = pos 1_000_000_000 ∷ negℤ (pos 1_000_000_000) ∷ []
@@ -184,5 +198,5 @@ unfolding inLevelsCheck finalCheck singleLattice columns rows cellsAt controls
 crest-figures = rw (crest-levels .from-base, crest-levels .base-is) (then-none _ _ (crest-levels .levels-fine) ∙ crest-levels .too-high)
 
 pub final-refused : (lent : Lent) → lentCheck one 2 lent ≡ none → fitCall one crest lent ≡ outcome (refused (sum 0)) (cleared one 2 lent)
-unfolding differenceCheck rangeCheck surveyCheck cellsCheck hCheck listsCheck pointsCheck pointCheck within inside inRange columns rows cellsAt firstOf require _then_
+unfolding differenceCheck rangeCheck surveyCheck cellsCheck hCheck listsCheck pointsCheck pointCheck spotCheck confident within inside inRange columns rows cellsAt firstOf require _then_
 final-refused lent room = refused-call one crest lent (sum 0) (rw (room, crest-levels .from-base) refl) crest-figures

@@ -14,7 +14,7 @@ pub data Refusal : Type 0 where
   -- "h above 5, or U not listed"
   levels : Refusal
   unit : Refusal
-  -- "x, y, z lists differ in length, or over 65,535 points"
+  -- "x, y, z lists differ in length, or over 65,535 points", and of document 02 "a fourth list that check 3 covers"
   lists : Refusal
   -- "a lent slice too short"
   short : Refusal
@@ -22,6 +22,8 @@ pub data Refusal : Type 0 where
   position : ℕ → Refusal
   -- "height or control value out of range": its index
   range : ℕ → Refusal
+  -- "q = 0 in a lent list", of document 02: the point's index
+  confidence : ℕ → Refusal
   -- "where a difference is out of range", of document 02: the point's index
   difference : ℕ → Refusal
   -- "a quotient, then a residual, then a sum out of range in a level": the level
@@ -40,7 +42,7 @@ pub data Refusal : Type 0 where
   -- "bytes after the end": the first such byte
   trailing : ℕ → Refusal
 
--- the column "Number", and of document 02 "13 for a residual and 14 for a sum", 15 and 16
+-- the column "Number", and of document 02 "13 for a residual and 14 for a sum", 15, 16 and 17
 abbrev pub number : Refusal → ℕ
 number cells = 1
 number levels = 2
@@ -49,6 +51,7 @@ number lists = 3
 number short = 4
 number (position i) = 5
 number (range i) = 6
+number (confidence i) = 17
 number (difference i) = 15
 number (quotient k) = 7
 number (residual k) = 13
@@ -69,6 +72,7 @@ place lists = 0
 place short = 0
 place (position i) = i
 place (range i) = i
+place (confidence i) = i
 place (difference i) = i
 place (quotient k) = k
 place (residual k) = k
@@ -89,6 +93,7 @@ inLevels lists = false
 inLevels short = false
 inLevels (position i) = false
 inLevels (range i) = false
+inLevels (confidence i) = false
 inLevels (difference i) = false
 inLevels (quotient k) = true
 inLevels (residual k) = true

@@ -9,13 +9,13 @@ use lib.IntN.{ℤ, pos}
 use lib.Ieee.{Float}
 use lib.ListN.{length, replicate}
 use Rattle.algebra.specs.Table.{tabulate, over}
-use Rattle.rules.specs.Grid.{within, inRange, inside, controls, control, store}
+use Rattle.rules.specs.Grid.{within, inRange, confident, inside, controls, control, store}
 use Rattle.rules.specs.Surface.{height}
 use Rattle.rules.specs.Slope.{slopeX, slopeY}
 use Rattle.rules.specs.Level.{Point, zero64}
 use Rattle.rules.specs.Refinement.{refined}
 use Rattle.rules.specs.Fit.{Shape, columns, rows, Survey, pointCount, pointAt, singleLattice, lastResiduals, differenceCheck, inLevelsCheck}
-use Rattle.rules.specs.Answers.{cells, levels, unit, lists, short, position, range, size, inLevels}
+use Rattle.rules.specs.Answers.{cells, levels, unit, lists, short, position, range, confidence, size, inLevels}
 use Rattle.rules.specs.Answers.{Check, require, _then_, firstOf, rangeCheck, Answer, accepted, refused, answer, Outcome, outcome, call}
 
 -- ---- checks that several calls share
@@ -37,9 +37,11 @@ unitCheck U = require (eqb U 16 || eqb U 32 || eqb U 64 || eqb U 128 || eqb U 25
 unfoldable pub hCheck : ℕ → Check
 hCheck h = require (leb h 5) levels
 
--- 3: "x, y, z lists differ in length, or over 65,535 points"
+-- 3: "x, y, z lists differ in length, or over 65,535 points", and of document 02 "a fourth list that check 3 covers"
 unfoldable pub listsCheck : Survey → Check
-listsCheck s = let p = pointCount s in require (eqb p (length (s .ys)) && eqb p (length (s .zs)) && leb p 65_535) lists
+listsCheck s =
+    let p = pointCount s in
+    require (eqb p (length (s .ys)) && eqb p (length (s .zs)) && eqb p (length (s .qs)) && leb p 65_535) lists
 
 -- 8: "columns or rows above 8,193"
 unfoldable pub countsCheck : ℕ → ℕ → Check
@@ -54,8 +56,12 @@ unfoldable pub stageCheck : ℤ → Check
 stageCheck stage = require (inRange stage) (range 0)
 
 -- "5 before 6 in a point": point i, on m by n cells of U positions
+unfoldable pub spotCheck : ℕ → ℕ → ℕ → ℕ → Point → Check
+spotCheck U m n i p = require (inside U m (p .x) && inside U n (p .y)) (position i) then require (inRange (p .z)) (range i)
+
+-- and 17 "after 6 in each point"
 unfoldable pub pointCheck : ℕ → ℕ → ℕ → ℕ → Point → Check
-pointCheck U m n i p = require (inside U m (p .x) && inside U n (p .y)) (position i) then require (inRange (p .z)) (range i)
+pointCheck U m n i p = spotCheck U m n i p then require (confident (p .q)) (confidence i)
 
 -- "Points go in list order"
 unfoldable pub pointsCheck : ℕ → ℕ → ℕ → Survey → Check

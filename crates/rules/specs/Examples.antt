@@ -1,21 +1,28 @@
 -- "Table of checked examples" of document 01: E1 to E8 and the three near examples, with slopes that tell the order of their roundings, bases that tell
--- near from floor, what a raster's step 0 stands for, storages, and the ground above a stage, both with the order of their refusals, as one computed table.
+-- near from floor, what a raster's step 0 stands for, storages, the ground above a stage, and points with a confidence and their files, with the order of
+-- their refusals, as one computed table.
 use Prim.Native.Nat.{ℕ, zero, suc, _+_, _*_, _/_, _%_}
 use mathlib.Core.Bool.{Bool, true, false, _&&_, cond}
 use mathlib.Core.Option.{none, some}
 use mathlib.Core.List.{List, [], _∷_, _++_}
 use lib.Dec.{T, eqb}
 use lib.IntN.{ℤ, pos, negsuc, negℤ}
-use lib.ListN.{replicate}
+use lib.Ieee.{Float, binary64, add, mul, div, ofInt, ofBits, toBits, size as digits}
+use lib.ListN.{replicate, take, drop}
 use Rattle.algebra.specs.Difference.{posPart}
 use Rattle.rules.specs.Rounding.{floor, near}
-use Rattle.rules.specs.Grid.{Lattice, inRange, within, controls, control}
+use Rattle.rules.specs.Grid.{Lattice, inRange, confident, within, inside, cellsAt, controls, control}
 use Rattle.rules.specs.Surface.{square, cube, numerator, denominator, cell, offset, weighted, along, height}
 use Rattle.rules.specs.Slope.{slopeNumerator, slopeDenominator, slopeAlong, slopeX, slopeY}
+use Rattle.rules.specs.Level.{_⊘_, float, Point, basis, weight, addSquares, squares, noSums, grown, uses, touched}
 use Rattle.rules.specs.Refinement.{masked, finer, finer2, refined}
-use Rattle.rules.specs.Fit.{total, nearMean, base}
+use Rattle.rules.specs.Fit.{Shape, shape, columns, rows, Survey, survey, total, nearMean, base}
 use Rattle.rules.specs.Answers.{number, place, Check, require, _then_, firstOf, rangeCheck, Answer, accepted, refused, answer}
 use Rattle.rules.specs.Calls.{defaultStep, stepOf, nodes, nodeX, nodeY, cellsCheck, unitCheck, countsCheck, latticeCheck, stageCheck, sizeCheck, nodeCheck, nodesCheck}
+use Rattle.rules.specs.Calls.{listsCheck, spotCheck, pointCheck, pointsCheck}
+use Rattle.rules.specs.Bytes.{bytesOf, numberOf, complement, uncomplement, valueBytes, numberAt, valueAt, same, recordCheck}
+use Rattle.rules.specs.PointFile.{PH, PT, PQ, Kind, pt, pq, pointRecord, pointHead, pointStart, fileShape, filePoints, kindOf, fileX, fileY, fileZ, lastNumber, fileQ}
+use Rattle.rules.specs.PointFile.{pointHeadCheck, pointRecordCheck, pointFileCheck}
 use Rattle.rules.specs.Storage.{depth, depths, litres, storage, sideCheck, pondCheck, heightsCheck, storageCheck}
 use Rattle.rules.specs.Above.{anyOf, above, anyAbove, aboveCheck, aboveAnswer}
 
@@ -74,6 +81,29 @@ peak v = replicate 15 (pos 0) ++ (v ∷ [])
 unfoldable pub aboveOf : Answer Bool → ℤ
 aboveOf (accepted b) = pos (cond b 1 0)
 aboveOf (refused r) = refusalOf (some r)
+
+-- one cell and no finer level, a survey of one point on it, numbers that f64 rounds, a point, and the start of a file of so many points
+abbrev oneCell : Shape
+oneCell = shape 1 1 0
+
+abbrev pointOf : ℕ → ℤ → ℕ → Survey
+pointOf x z q = survey (x ∷ []) (0 ∷ []) (z ∷ []) (q ∷ [])
+
+abbrev seventh : Float
+seventh = float (pos 1) ⊘ float (pos 7)
+
+abbrev threeTenths : Float
+threeTenths = float (pos 3) ⊘ float (pos 10)
+
+abbrev nine : Point
+nine = record { x = 0; y = 0; z = pos 9; q = 3 }
+
+abbrev start : ℕ → List ℕ
+start p = pointHead oneCell p
+
+-- a record of either kind, of the point (0, 0) with height 7 and confidence 1
+abbrev seven : Kind → List ℕ
+seven k = pointRecord k (record { x = 0; y = 0; z = pos 7; q = 1 })
 
 unfoldable pub table : List Line
 table =
@@ -146,9 +176,43 @@ table =
     ∷ (aboveOf (aboveAnswer 1 1 16 (peak tooHigh) (nodes 0 0 0 4 1) tooHigh) is pos 6_000)
     ∷ (aboveOf (aboveAnswer 1 1 16 (peak tooHigh) (nodes 0 0 0 4 1) (pos 8)) is pos 6_015)
     ∷ (aboveOf (aboveAnswer 1 1 16 level (nodes 0 0 0 4 1) (pos 8)) is pos 5_003)
+    -- "Confidence of a survey point": "a fourth list that check 3 covers"; "17 with the point's index for q = 0 in a lent list, after 6 in each point"
+    ∷ (refusalOf (listsCheck (survey (0 ∷ []) (0 ∷ []) (pos 7 ∷ []) [])) is pos 3_000)
+    ∷ (refusalOf (listsCheck (pointOf 0 (pos 7) 0)) is pos 0)
+    ∷ (refusalOf (pointsCheck 16 1 1 (pointOf 17 tooHigh 0)) is pos 5_000)
+    ∷ (refusalOf (pointsCheck 16 1 1 (pointOf 16 tooHigh 0)) is pos 6_000)
+    ∷ (refusalOf (pointsCheck 16 1 1 (pointOf 16 (pos 7) 0)) is pos 17_000)
+    ∷ (refusalOf (pointsCheck 16 1 1 (survey (0 ∷ 0 ∷ []) (0 ∷ 0 ∷ []) (pos 7 ∷ pos 7 ∷ []) (255 ∷ 0 ∷ []))) is pos 17_001)
+    ∷ (refusalOf (pointsCheck 16 1 1 (pointOf 16 (pos 7) 255)) is pos 0)
+    -- "The two sums grow by (q × (w × w)) × ((w × z) / S) and q × (w × w)": by their bits, with q = 3, w = 1/7, z = 7 and S = 3/10, where every other
+    -- grouping rounds otherwise; and those of document 01's point (0, 0, 9) with q = 3, at the control value (0, 0), where S has no q in it
+    ∷ (pos (toBits binary64 (grown (float (pos 3)) seventh (float (pos 7)) threeTenths noSums .first)) is pos 4_596_520_836_008_691_336)
+    ∷ (pos (toBits binary64 (grown (float (pos 3)) seventh (float (pos 7)) threeTenths noSums .second)) is pos 4_588_984_199_897_581_526)
+    ∷ (pos (toBits binary64 (touched 16 1 1 1 1 nine noSums .first)) is pos 4_621_527_217_613_123_432)
+    ∷ (pos (toBits binary64 (touched 16 1 1 1 1 nine noSums .second)) is pos 4_603_512_819_103_641_448)
+    -- "A point file has only PT or only PQ records", of 14 and of 15 bytes; "the first sets the kind"
+    ∷ (refusalOf (pointFileCheck (start 2 ++ seven pt ++ seven pt)) is pos 0)
+    ∷ (refusalOf (pointFileCheck (start 2 ++ seven pq ++ seven pq)) is pos 0)
+    -- "A first record with under 14 bytes left is 9 before its mark is read, a PQ with 14 is 9 after it": PT and PQ with 13, PQ and neither with 14
+    ∷ (refusalOf (pointFileCheck (start 1 ++ take 13 (seven pt))) is pos 9_008)
+    ∷ (refusalOf (pointFileCheck (start 1 ++ take 13 (seven pq))) is pos 9_008)
+    ∷ (refusalOf (pointFileCheck (start 1 ++ take 14 (seven pq))) is pos 9_008)
+    ∷ (refusalOf (pointFileCheck (start 1 ++ PH ++ drop 2 (seven pt))) is pos 10_008)
+    -- "later records are measured by the kind": PT with 14 and with 15 bytes left after PQ, PQ with 13 and with 14 left after PT
+    ∷ (refusalOf (pointFileCheck (start 2 ++ seven pq ++ seven pt)) is pos 9_023)
+    ∷ (refusalOf (pointFileCheck (start 2 ++ seven pq ++ seven pt ++ (1 ∷ []))) is pos 10_023)
+    ∷ (refusalOf (pointFileCheck (start 2 ++ seven pt ++ take 13 (seven pq))) is pos 9_022)
+    ∷ (refusalOf (pointFileCheck (start 2 ++ seven pt ++ take 14 (seven pq))) is pos 10_022)
+    -- "in a file it is 11", at its byte and after z; a file of no points has no kind
+    ∷ (refusalOf (pointFileCheck (start 1 ++ pointRecord pq (record { x = 0; y = 0; z = pos 7; q = 0 }))) is pos 11_022)
+    ∷ (refusalOf (pointFileCheck (start 1 ++ pointRecord pq (record { x = 0; y = 0; z = tooHigh; q = 0 }))) is pos 11_014)
+    ∷ (refusalOf (pointFileCheck (start 0 ++ seven pq)) is pos 12_008)
+    -- "a PT point reads as q = 1"
+    ∷ (pos (fileQ (start 1 ++ seven pt) 0) is pos 1)
+    ∷ (pos (fileQ (start 1 ++ pointRecord pq (record { x = 0; y = 0; z = pos 7; q = 255 })) 0) is pos 255)
     ∷ []
 
 -- the whole table, computed
 pub examples : T (allHold table)
-unfolding table allHold _is_ equal single heightOf refinedAt nonzero floor near square cube numerator denominator cell offset weighted along height masked finer finer2 refined slopeNumerator slopeDenominator slopeAlong slopeX slopeY total nearMean base defaultStep stepOf nodeX nodeY refusalOf posPart depth depths litres storage inRange within require _then_ firstOf rangeCheck countsCheck sideCheck pondCheck stageCheck heightsCheck storageCheck aboveOf anyOf above anyAbove control controls cellsCheck unitCheck latticeCheck sizeCheck nodeCheck nodesCheck aboveCheck answer aboveAnswer
+unfolding table allHold _is_ equal single heightOf refinedAt nonzero floor near square cube numerator denominator cell offset weighted along height masked finer finer2 refined slopeNumerator slopeDenominator slopeAlong slopeX slopeY total nearMean base defaultStep stepOf nodeX nodeY refusalOf posPart depth depths litres storage inRange within require _then_ firstOf rangeCheck countsCheck sideCheck pondCheck stageCheck heightsCheck storageCheck aboveOf anyOf above anyAbove control controls cellsCheck unitCheck latticeCheck sizeCheck nodeCheck nodesCheck aboveCheck answer aboveAnswer listsCheck pointsCheck pointCheck spotCheck inside confident columns rows cellsAt bytesOf numberOf complement uncomplement valueBytes numberAt valueAt same recordCheck PH PT PQ pointHead pointRecord pointStart fileShape filePoints kindOf fileX fileY fileZ lastNumber fileQ pointHeadCheck pointRecordCheck pointFileCheck grown noSums touched uses weight basis squares addSquares add mul div ofInt ofBits toBits digits
 examples = tt

@@ -1,6 +1,7 @@
 -- "The whole fit" of document 01, and the base of document 02's job 4: a survey, its base, its level lattices and residuals, the single lattice, and D, T
 -- and V of demand 3. Definitions only.
-use Prim.Native.Nat.{ℕ, zero, suc, _+_, _*_, _/_, _%_, _^_}
+use Prim.Native.Nat.{ℕ, zero, suc, _+_, _*_, _/_, _%_, _^_, _<_}
+use mathlib.Core.Path.{_≡_}
 use mathlib.Core.Bool.{Bool, true, false}
 use mathlib.Core.Option.{Option, none, some}
 use mathlib.Core.List.{List}
@@ -35,30 +36,36 @@ unitOf a k = unitAt (a .h) k
 
 -- ---- a survey
 
--- "x, y, z lists": a point's x, y and z stand at one place of the three. The lists that a reader is lent have this form too, of any lengths.
+-- "x, y, z lists", and a confidence "in a fourth list": a point's x, y, z and q stand at one place of the four. The lists that a reader is lent have this
+-- form too, of any lengths.
 pub record Survey : Type 0 where
   pub xs : List ℕ
   pub ys : List ℕ
   pub zs : List ℤ
+  pub qs : List ℕ
 
-abbrev pub survey : List ℕ → List ℕ → List ℤ → Survey
-survey xs ys zs = record { xs = xs; ys = ys; zs = zs }
+abbrev pub survey : List ℕ → List ℕ → List ℤ → List ℕ → Survey
+survey xs ys zs qs = record { xs = xs; ys = ys; zs = zs; qs = qs }
 
 -- p, the common length of the lists
 abbrev pub pointCount : Survey → ℕ
 pointCount s = length (s .xs)
 
 abbrev pub pointAt : Survey → ℕ → Point
-pointAt s i = record { x = getD (s .xs) i 0; y = getD (s .ys) i 0; z = getD (s .zs) i (pos 0) }
+pointAt s i = record { x = getD (s .xs) i 0; y = getD (s .ys) i 0; z = getD (s .zs) i (pos 0); q = getD (s .qs) i 0 }
 
 unfoldable pub pointsOf : Survey → List Point
 pointsOf s = tabulate (pointCount s) (pointAt s)
 
+-- "q = 1 throughout", of document 02
+abbrev pub AllOne : Survey → Type 0
+AllOne s = (i : ℕ) → i < pointCount s → pointAt s i .q ≡ 1
+
 -- the same points with other values
 abbrev pub valued : Survey → List ℤ → Survey
-valued s values = record { xs = s .xs; ys = s .ys; zs = values }
+valued s values = record { xs = s .xs; ys = s .ys; zs = values; qs = s .qs }
 
--- ---- the base, of document 02's job 4: "Subtract a base first: near of the mean height, or 0 with no points"
+-- ---- the base, of document 02's job 4: "Subtract a base first: near of the mean height, or 0 with no points". "The base ignores q."
 
 -- the sum of the first n of these values
 unfoldable pub total : ℕ → List ℤ → ℤ

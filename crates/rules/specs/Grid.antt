@@ -18,6 +18,10 @@ inRange z = leb (natAbs z) limit
 unfoldable pub within : ℕ → ℕ → ℕ → Bool
 within low high v = leb low v && leb v high
 
+-- "a confidence q, 1 to 255", of document 02
+unfoldable pub confident : ℕ → Bool
+confident q = within 1 255 q
+
 -- "Level k has m = m0 × 2^k by n = n0 × 2^k cells, each U = 16 × 2^(h-k) positions wide"
 unfoldable pub cellsAt : ℕ → ℕ → ℕ
 cellsAt m0 k = m0 * 2 ^ k

@@ -1,4 +1,5 @@
 pub mod Basis
+pub mod Floats
 pub mod Bytes
 pub mod Checks
 pub mod Passed
@@ -14,5 +15,8 @@ pub mod Fit
 pub mod Base
 pub mod Levels
 pub mod Distance
+pub mod Confidence
 pub mod LatticeFile
+pub mod PointFields
 pub mod PointFile
+pub mod Rewriting

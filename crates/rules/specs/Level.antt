@@ -1,4 +1,4 @@
--- "Fitting one level" of document 01: "All in f64, each operation rounded once, in this order". Definitions only.
+-- "Fitting one level" of document 01, with the confidence of document 02's job 8: "All in f64, each operation rounded once, in this order". Definitions only.
 use Prim.Native.Nat.{ℕ, _+_, _-_, _*_}
 use mathlib.Core.Bool.{Bool, true, false, _&&_, cond}
 use mathlib.Core.Option.{Option, none, some}
@@ -32,11 +32,12 @@ zero64 = ofBits binary64 0
 
 -- ---- a point's weights
 
--- "a point at (x, y) with value z"
+-- "a point at (x, y) with value z", and of document 02 "A point gains a confidence q, 1 to 255"
 pub record Point : Type 0 where
   pub x : ℕ
   pub y : ℕ
   pub z : ℤ
+  pub q : ℕ
 
 -- "Bk and Cl are numerator divided by 6U³, for x and y"
 unfoldable pub basis : ℕ → ℕ → ℕ → Float
@@ -63,9 +64,9 @@ pub record Sums : Type 0 where
 unfoldable pub noSums : Sums
 noSums = record { first = zero64; second = zero64 }
 
--- "the first grows by (w × w) × ((w × z) / S), the second by w × w"
-unfoldable pub grown : Float → Float → Float → Sums → Sums
-grown w z S sums = record { first = sums .first ⊕ (w ⊗ w) ⊗ ((w ⊗ z) ⊘ S); second = sums .second ⊕ w ⊗ w }
+-- "The two sums grow by (q × (w × w)) × ((w × z) / S) and q × (w × w), q as f64"
+unfoldable pub grown : Float → Float → Float → Float → Sums → Sums
+grown q w z S sums = record { first = sums .first ⊕ (q ⊗ (w ⊗ w)) ⊗ ((w ⊗ z) ⊘ S); second = sums .second ⊕ q ⊗ (w ⊗ w) }
 
 -- the four control values that a cell uses along an axis have the one at place s among them: "Cell c uses control indices c-1 to c+2"
 unfoldable pub uses : ℕ → ℕ → Bool
@@ -77,7 +78,7 @@ touched U m n s t p sums =
     let c = cell U m (p .x) in
     let r = cell U n (p .y) in
     let w = weight U m n p in
-    cond (uses c s && uses r t) (grown (w (s - c) (t - r)) (float (p .z)) (squares w) sums) sums
+    cond (uses c s && uses r t) (grown (float (pos (p .q))) (w (s - c) (t - r)) (float (p .z)) (squares w) sums) sums
 
 -- "points in list order"
 unfoldable pub gathered : ℕ → ℕ → ℕ → ℕ → ℕ → List Point → Sums → Sums

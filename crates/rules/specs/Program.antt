@@ -23,11 +23,12 @@ unfoldable pub refusedLine : Refusal → List ℕ
 refusedLine r =
     (114 ∷ 101 ∷ 102 ∷ 117 ∷ 115 ∷ 101 ∷ 100 ∷ 32 ∷ []) ++ decimal (number r) ++ (32 ∷ []) ++ decimal (place r) ++ (10 ∷ [])
 
--- "It takes at most 7,008 bytes and 16 finest cells a side. More bytes: refused 4 0, before reading the file; more cells: the same, after the reader"
+-- "It takes at most .. 16 finest cells a side", and of document 02 "The program takes 7,508 bytes". "More bytes: refused 4 0, before reading the file; more
+-- cells: the same, after the reader"
 unfoldable pub programCheck : List ℕ → Check
 programCheck input =
     let a = fileShape input in
-    require (leb (length input) 7_008) short
+    require (leb (length input) 7_508) short
     then pointFileCheck input
     then require (leb (columns a (a .h)) 16 && leb (rows a (a .h)) 16) short
     then differenceCheck (fileSurvey input .zs)

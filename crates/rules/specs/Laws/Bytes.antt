@@ -178,7 +178,7 @@ module _ {file : List ℕ} (s : ℕ → ℕ) (f : ℕ → List ℕ) where
       go (yes l) before last = before l
       go (no g) before last = let at : i ≡ n = omega arith in rw at last
 
-spans-take : {file part : List ℕ} {b c : ℕ} (w : ℕ) → length part ≡ w → Spans file b c part → take w (drop b file) ≡ part
+pub spans-take : {file part : List ℕ} {b c : ℕ} (w : ℕ) → length part ≡ w → Spans file b c part → take w (drop b file) ≡ part
 spans-take {file} {part} {b} {c} w e x = ap (take w) (x .cut) ∙ take-at part (drop c file) w e
 
 -- a part that is not empty ends within the file

@@ -15,7 +15,7 @@ use lib.IntN.{ℤ, pos, natAbs}
 use lib.ListN.{getD}
 use mir.Facts.{and-yes, yes-and}
 use Rattle.rules.specs.Grid.{limit, inRange, within}
-use Rattle.rules.specs.Answers.{Refusal, cells, levels, unit, lists, short, position, range, difference, quotient, residual, sum, size, side, incomplete, mark, field, trailing, number, inLevels}
+use Rattle.rules.specs.Answers.{Refusal, cells, levels, unit, lists, short, position, range, confidence, difference, quotient, residual, sum, size, side, incomplete, mark, field, trailing, number, inLevels}
 use Rattle.rules.specs.Answers.{Check, require, _then_, firstOf, rangeCheck, Answer, accepted, refused, answer, Outcome, outcome, call}
 
 -- ---- one check
@@ -303,6 +303,7 @@ in-levels lists = refl
 in-levels short = refl
 in-levels (position i) = refl
 in-levels (range i) = refl
+in-levels (confidence i) = refl
 in-levels (difference i) = refl
 in-levels (quotient k) = refl
 in-levels (residual k) = refl
@@ -327,6 +328,7 @@ number-some lists e = omega arith
 number-some short e = omega arith
 number-some (position i) e = omega arith
 number-some (range i) e = omega arith
+number-some (confidence i) e = omega arith
 number-some (difference i) e = omega arith
 number-some (quotient k) e = omega arith
 number-some (residual k) e = omega arith

@@ -12,10 +12,10 @@ use lib.ListN.{length}
 use lib.Pow.{pow-mono}
 use mir.Facts.{and-yes, yes-and}
 use Rattle.algebra.specs.Table.{over}
-use Rattle.rules.specs.Grid.{limit, within, inRange, inside, cellsAt, controls}
+use Rattle.rules.specs.Grid.{limit, within, inRange, confident, inside, cellsAt, controls}
 use Rattle.rules.specs.Fit.{Shape, Survey, pointCount, pointAt, differences, fromBase, singleLattice, differenceCheck}
-use Rattle.rules.specs.Answers.{Refusal, Check, cells, levels, lists, position, range, difference, size, accepted, refused}
-use Rattle.rules.specs.Calls.{countsCheck, cellsCheck, hCheck, listsCheck, stageCheck, latticeCheck, pointCheck, pointsCheck, surveyCheck}
+use Rattle.rules.specs.Answers.{Refusal, Check, cells, levels, lists, position, range, confidence, difference, size, accepted, refused}
+use Rattle.rules.specs.Calls.{countsCheck, cellsCheck, hCheck, listsCheck, stageCheck, latticeCheck, spotCheck, pointCheck, pointsCheck, surveyCheck}
 use Rattle.rules.specs.Calls.{CellCounts, Lent, fitCheck, finest, results, cleared, fitEnd, fitCall}
 use Rattle.rules.specs.Laws.Base.{length-differences}
 use Rattle.rules.specs.Laws.Checks.{required, require-met, within-bounds, bounds-within, then-first, then-rest, then-none, firstOf-none, firstOf-all, AllInRange, inRange-size, size-inRange, rangeCheck-size}
@@ -114,6 +114,7 @@ pub record Surveyed (a : Shape) (s : Survey) : Type 0 where
   pub levels-most : a .h ≤ 5
   pub as-many-y : length (s .ys) ≡ pointCount s
   pub as-many-z : length (s .zs) ≡ pointCount s
+  pub as-many-q : length (s .qs) ≡ pointCount s
   pub points-most : pointCount s ≤ 65_535
 
 pub survey-passed : (a : Shape) (s : Survey) → surveyCheck a s ≡ none → Surveyed a s
@@ -123,13 +124,16 @@ survey-passed a s e =
     let past-cells = then-rest _ _ e in
     let y = eqb p (length (s .ys)) in
     let z = eqb p (length (s .zs)) in
-    let all = and-yes (y && z) (leb p 65_535) (required _ lists (then-rest _ _ past-cells)) in
-    let as-many = and-yes y z (all .0) in
+    let q = eqb p (length (s .qs)) in
+    let all = and-yes (y && z && q) (leb p 65_535) (required _ lists (then-rest _ _ past-cells)) in
+    let as-many = and-yes (y && z) q (all .0) in
+    let positions = and-yes y z (as-many .0) in
     record {
       sides = cells-passed 16 (a .m0) (a .n0) (then-first _ _ e);
       levels-most = leb→le (a .h) 5 (required _ levels (then-first _ _ past-cells));
-      as-many-y = sym (eqb→eq p _ (as-many .0));
-      as-many-z = sym (eqb→eq p _ (as-many .1));
+      as-many-y = sym (eqb→eq p _ (positions .0));
+      as-many-z = sym (eqb→eq p _ (positions .1));
+      as-many-q = sym (eqb→eq p _ (as-many .1));
       points-most = leb→le p 65_535 (all .1);
     }
 
@@ -139,38 +143,47 @@ surveyed-passes a s w =
     let p = pointCount s in
     let y = eqb p (length (s .ys)) in
     let z = eqb p (length (s .zs)) in
+    let q = eqb p (length (s .qs)) in
+    let as-many = yes-and (y && z) q (yes-and y z (equal (w .as-many-y)) (equal (w .as-many-z))) (equal (w .as-many-q)) in
     then-none _ _ (sides-pass 16 (a .m0) (a .n0) (w .sides))
     ∙ then-none _ _ (require-met _ _ (le→leb (a .h) 5 (w .levels-most)))
-    ∙ require-met _ _ (yes-and (y && z) (leb p 65_535) (yes-and y z (equal (w .as-many-y)) (equal (w .as-many-z))) (le→leb p 65_535 (w .points-most)))
+    ∙ require-met _ _ (yes-and (y && z && q) (leb p 65_535) as-many (le→leb p 65_535 (w .points-most)))
   where
     equal : {m n : ℕ} → m ≡ n → T (eqb n m)
     equal {m} e = rw (← e) (eqb-refl m)
 
--- a point on m by n cells of U positions, with a value in range
+-- a point on m by n cells of U positions, with a value in range and a confidence
 pub record Placed (U m n : ℕ) (s : Survey) (i : ℕ) : Type 0 where
   pub x-inside : pointAt s i .x ≤ U * m
   pub y-inside : pointAt s i .y ≤ U * n
   pub z-size : natAbs (pointAt s i .z) ≤ limit
+  pub q-some : 1 ≤ pointAt s i .q
+  pub q-most : pointAt s i .q ≤ 255
 
 pub points-passed : (U m n : ℕ) (s : Survey) → pointsCheck U m n s ≡ none → (i : ℕ) → i < pointCount s → Placed U m n s i
-unfolding pointsCheck pointCheck inside
+unfolding pointsCheck pointCheck spotCheck inside confident
 points-passed U m n s e i l =
     let here = firstOf-none (pointCount s) _ e i l in
-    let at = and-yes (inside U m (pointAt s i .x)) (inside U n (pointAt s i .y)) (required _ (position i) (then-first _ _ here)) in
+    let spot = then-first _ _ here in
+    let at = and-yes (inside U m (pointAt s i .x)) (inside U n (pointAt s i .y)) (required _ (position i) (then-first _ _ spot)) in
+    let q = within-bounds 1 255 (pointAt s i .q) (required _ (confidence i) (then-rest _ _ here)) in
     record {
       x-inside = leb→le _ (U * m) (at .0);
       y-inside = leb→le _ (U * n) (at .1);
-      z-size = inRange-size _ (required _ (range i) (then-rest _ _ here));
+      z-size = inRange-size _ (required _ (range i) (then-rest _ _ spot));
+      q-some = q .0;
+      q-most = q .1;
     }
 
 pub placed-pass : (U m n : ℕ) (s : Survey) → ((i : ℕ) → i < pointCount s → Placed U m n s i) → pointsCheck U m n s ≡ none
-unfolding pointsCheck pointCheck inside
+unfolding pointsCheck pointCheck spotCheck inside confident
 placed-pass U m n s all =
     firstOf-all (pointCount s) _
     (λ i l.
     let p = pointAt s i in
     let at = yes-and (leb (p .x) (U * m)) (leb (p .y) (U * n)) (le→leb _ _ (all i l .x-inside)) (le→leb _ _ (all i l .y-inside)) in
-    then-none _ _ (require-met _ _ at) ∙ require-met _ _ (size-inRange (p .z) (all i l .z-size)))
+    then-none _ _ (then-none _ _ (require-met _ _ at) ∙ require-met _ _ (size-inRange (p .z) (all i l .z-size)))
+    ∙ require-met _ _ (bounds-within 1 255 (p .q) (all i l .q-some, all i l .q-most)))
 
 -- ---- the differences
 
@@ -181,6 +194,7 @@ based-surveyed {s = s} w = record {
   levels-most = w .levels-most;
   as-many-y = w .as-many-y;
   as-many-z = length-differences (s .zs) ∙ w .as-many-z;
+  as-many-q = w .as-many-q;
   points-most = w .points-most;
 }
 
@@ -192,6 +206,8 @@ based-placed {s = s} w e placed i l = record {
   x-inside = placed i l .x-inside;
   y-inside = placed i l .y-inside;
   z-size = rangeCheck-size (length (s .zs)) (differences (s .zs)) difference e i (rw (w .as-many-z) l);
+  q-some = placed i l .q-some;
+  q-most = placed i l .q-most;
 }
 
 -- ---- what the answer of a fit tells

@@ -11,8 +11,8 @@ use lib.ListN.{length}
 use Rattle.rules.specs.Grid.{controls}
 use Rattle.rules.specs.Fit.{Shape, columns, rows, Survey, pointCount, valued, differences, fromBase, levelValue, residuals, running, singleLattice}
 use Rattle.rules.specs.Fit.{present, quotientCheck, residualCheck, sumCheck, levelCheck, levelsCheck, differenceCheck, finalCheck, inLevelsCheck}
-use Rattle.rules.specs.Answers.{Refusal, difference, quotient, residual, sum, number, place, inLevels, Check, require, _then_}
-use Rattle.rules.specs.Calls.{Lent, surveyCheck, cellsCheck, hCheck, listsCheck, roomCheck, lentCheck, pointCheck, pointsCheck, fitCheck, latticeCheck, refineCheck}
+use Rattle.rules.specs.Answers.{Refusal, confidence, difference, quotient, residual, sum, number, place, inLevels, Check, require, _then_}
+use Rattle.rules.specs.Calls.{Lent, surveyCheck, cellsCheck, hCheck, listsCheck, roomCheck, lentCheck, spotCheck, pointCheck, pointsCheck, fitCheck, latticeCheck, refineCheck}
 use Rattle.rules.specs.Laws.Checks.{then-none, then-some, then-refusal, then-assoc, require-refusal, firstOf-none, firstOf-all, firstOf-at, firstOf-only, firstOf-refusal}
 use Rattle.rules.specs.Laws.Checks.{Only, only-require, only-then, only-firstOf, only-rangeCheck, early-number}
 use Rattle.rules.specs.Laws.Checks.{AllInRange, FirstOut, rangeCheck-size, size-rangeCheck, rangeCheck-refusal, firstOut-at}
@@ -31,18 +31,21 @@ module _ (a : Shape) (s : Survey) (l : Lent) where
       let room = lentCheck a (pointCount s) l in
       sym (then-assoc _ _ _ ∙ ap (λ c. surveyCheck a s then c) (then-assoc _ _ _ ∙ ap (λ c. room then c) (then-assoc _ _ _)))
 
-  -- what is true of 1 to 6 and of 15 is true of whatever these refuse by
-  early : {P : Refusal → Type 0} → ((r : Refusal) → number r ≤ 6 → P r) → Only P (differenceCheck (s .zs)) → Only P earlyCheck
-  unfolding surveyCheck cellsCheck hCheck listsCheck lentCheck roomCheck pointsCheck pointCheck
-  early p d =
+  -- what is true of 1 to 6, of 17 and of 15 is true of whatever these refuse by
+  early : {P : Refusal → Type 0} → ((r : Refusal) → number r ≤ 6 → P r) → ((i : ℕ) → P (confidence i)) → Only P (differenceCheck (s .zs)) → Only P earlyCheck
+  unfolding surveyCheck cellsCheck hCheck listsCheck lentCheck roomCheck pointsCheck pointCheck spotCheck
+  early p q d =
       only-then (only-then (only-require _ _ (p _ (omega arith))) (only-then (only-require _ _ (p _ (omega arith))) (only-require _ _ (p _ (omega arith)))))
       (only-then (only-require _ _ (p _ (omega arith)))
-      (only-then (only-firstOf (pointCount s) _ (λ i. only-then (only-require _ _ (p _ (omega arith))) (only-require _ _ (p _ (omega arith))))) d))
+      (only-then
+      (only-firstOf (pointCount s) _ (λ i.
+      only-then (only-then (only-require _ _ (p _ (omega arith))) (only-require _ _ (p _ (omega arith)))) (only-require _ _ (q i))))
+      d))
 
   -- none of them refuses as a level does
   pub early-only : Only (λ r. inLevels r ≡ false) earlyCheck
   unfolding differenceCheck
-  early-only = early early-number (only-rangeCheck _ _ _ (λ i. refl))
+  early-only = early early-number (λ i. refl) (only-rangeCheck _ _ _ (λ i. refl))
 
 -- the levels refuse in no other way
 levels-only : (a : Shape) (s : Survey) → Only (λ r. inLevels r ≡ true) (levelsCheck a s)
@@ -183,14 +186,19 @@ module _ (a : Shape) (s : Survey) where
           let out : DifferenceOut (s .zs) (q .0) = record { listed = q .1; out = q .2 } in
           subst Tells (q .3) (record { by-15 = λ n. out; by-7 = λ n. absurd (omega arith); by-13 = λ n. absurd (omega arith); by-14 = λ n. absurd (omega arith) })
 
+  -- 1 to 6 and 17 tell of what was lent, and of no such figure
   given-tells : (r : Refusal) → number r ≤ 6 → Tells r
   given-tells r l =
+      record { by-15 = λ n. absurd (omega arith); by-7 = λ n. absurd (omega arith); by-13 = λ n. absurd (omega arith); by-14 = λ n. absurd (omega arith) }
+
+  confidence-tells : (i : ℕ) → Tells (confidence i)
+  confidence-tells i =
       record { by-15 = λ n. absurd (omega arith); by-7 = λ n. absurd (omega arith); by-13 = λ n. absurd (omega arith); by-14 = λ n. absurd (omega arith) }
 
   pub which-figure : (l : Lent) (r : Refusal) → fitCheck a s l ≡ some r → WhichFigure a s (number r) (place r)
   unfolding inLevelsCheck
   which-figure l r e =
-      ⊎-elim (early a s l given-tells difference-tells .only r)
+      ⊎-elim (early a s l given-tells confidence-tells difference-tells .only r)
       (λ rest. ⊎-elim (levels-tell r) (λ last. final-tells r (last .0) (last .1)) (then-refusal (levelsCheck a d) (finalCheck a s) r (rest .1)))
       (then-refusal (earlyCheck a s l) (inLevelsCheck a s) r (sym (grouped a s l) ∙ e))
 
