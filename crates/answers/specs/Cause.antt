@@ -4,7 +4,7 @@ use mathlib.Core.Bool.{Bool, true, false}
 use mathlib.Core.Option.{none, some}
 use Rattle.rules.specs.Answers as rule
 use Rattle.answers.specs.declared.Refusal.{Refusal}
-use Rattle.answers.specs.declared.Refusal.the-variants.{Cells, Levels, Unit, Lists, Short, Position, Range, Difference, Quotient, Residual, Sum, Size, Side, Incomplete, Mark, Field, Trailing}
+use Rattle.answers.specs.declared.Refusal.the-variants.{Cells, Levels, Unit, Lists, Short, Position, Range, Confidence, Difference, Quotient, Residual, Sum, Size, Side, Incomplete, Mark, Field, Trailing}
 use Rattle.answers.specs.declared.Verdict.{Verdict}
 use Rattle.answers.specs.declared.Verdict.the-variants.{Fine, Refused}
 
@@ -16,6 +16,7 @@ cause Lists = rule.lists
 cause Short = rule.short
 cause (Position i) = rule.position i
 cause (Range i) = rule.range i
+cause (Confidence i) = rule.confidence i
 cause (Difference i) = rule.difference i
 cause (Quotient k) = rule.quotient k
 cause (Residual k) = rule.residual k

@@ -1,9 +1,9 @@
-// What the caller is told: document 01's table of refusals, as a type of the code, with the number and the place of each.
+// What the caller is told: the refusals of documents 01 and 02, as a type of the code, with the number and the place of each.
 ghost use mathlib.Core.Path.{_≡_};
 ghost use Rattle.rules.specs.Answers as rule;
 ghost use Rattle.answers.specs.Cause.{cause};
 
-// The causes of the table, in its order. One that has a place holds it.
+// The causes, in the rules' order. One that has a place holds it.
 pub enum Refusal {
     Cells,
     Levels,
@@ -12,6 +12,7 @@ pub enum Refusal {
     Short,
     Position(usize),
     Range(usize),
+    Confidence(usize),
     Difference(usize),
     Quotient(usize),
     Residual(usize),
@@ -53,6 +54,7 @@ pub fn number(r: Refusal) -> usize
         Refusal::Short => 4,
         Refusal::Position(_) => 5,
         Refusal::Range(_) => 6,
+        Refusal::Confidence(_) => 17,
         Refusal::Difference(_) => 15,
         Refusal::Quotient(_) => 7,
         Refusal::Residual(_) => 13,
@@ -77,6 +79,7 @@ pub fn place(r: Refusal) -> usize
         Refusal::Short => 0,
         Refusal::Position(i) => i,
         Refusal::Range(i) => i,
+        Refusal::Confidence(i) => i,
         Refusal::Difference(i) => i,
         Refusal::Quotient(k) => k,
         Refusal::Residual(k) => k,

@@ -30,7 +30,7 @@ use Rattle.scratch.specs.Scratch.{Levelable, Celled}
 
 -- ---- the fit
 
--- what is checked of the points: 5 and 6, and then 15
+-- what is checked of the points: 5, 6 and 17, and then 15
 abbrev pub pointed : Shape → Survey → Check
 pointed a s = pointsCheck 16 (columns a (a .h)) (rows a (a .h)) s then differenceCheck (s .zs)
 

@@ -14,12 +14,12 @@ use answers::Verdict;
 use base::BaseTold;
 use point_checks::PointsTold;
 
-// 5 and 6 point by point, then 15, and the base of points that are in order.
-fn base_of(m: usize, n: usize, xs: &[u16], ys: &[u16], zs: &[i64]) -> BaseTold
-    requires { ⌜ (m ≤ 512) × (n ≤ 512) × (length (now ys) ≡ length (now xs)) × (length (now zs) ≡ length (now xs)) × (length (now xs) ≤ 65_535) ⌝ }
-    ensures { λ r. ⌜ base-told r ≡ answer (pointsCheck 16 m n (survey (now (xs .entry)) (now (ys .entry)) (now (zs .entry))) then differenceCheck (now (zs .entry))) (base (now (zs .entry))) ⌝ }
+// 5, 6 and 17 point by point, then 15, and the base of points that are in order. "The base ignores q."
+fn base_of(m: usize, n: usize, xs: &[u16], ys: &[u16], zs: &[i64], qs: &[u8]) -> BaseTold
+    requires { ⌜ (m ≤ 512) × (n ≤ 512) × (length (now ys) ≡ length (now xs)) × (length (now zs) ≡ length (now xs)) × (length (now qs) ≡ length (now xs)) × (length (now xs) ≤ 65_535) ⌝ }
+    ensures { λ r. ⌜ base-told r ≡ answer (pointsCheck 16 m n (survey (now (xs .entry)) (now (ys .entry)) (now (zs .entry)) (now (qs .entry))) then differenceCheck (now (zs .entry))) (base (now (zs .entry))) ⌝ }
 {
-    match point_checks::points(m, n, xs, ys, zs) {
+    match point_checks::points(m, n, xs, ys, zs, qs) {
         PointsTold::Sum(z) => base::settle(zs, z),
         PointsTold::Refused(r) => BaseTold::Refused(r),
     }
@@ -33,15 +33,16 @@ pub fn fit(
     xs: &[u16],
     ys: &[u16],
     zs: &[i64],
+    qs: &[u8],
     lattice: &mut [i64],
     residual: &mut [i64],
     whole: &mut [i64],
     floats: &mut [f64],
 ) -> CellsTold
-    ensures { λ r. ⌜ outcome (told r) (lent (now (lattice .exit)) (now (residual .exit)) (now (whole .exit)) (now (floats .exit))) ≡ fitCall (shape m0 n0 h) (survey (now (xs .entry)) (now (ys .entry)) (now (zs .entry))) (lent (now (lattice .entry)) (now (residual .entry)) (now (whole .entry)) (now (floats .entry))) ⌝ }
-    ensures { λ r. ⌜ Demand3 (shape m0 n0 h) (survey (now (xs .entry)) (now (ys .entry)) (now (zs .entry))) (told r) (now (lattice .exit)) ⌝ }
+    ensures { λ r. ⌜ outcome (told r) (lent (now (lattice .exit)) (now (residual .exit)) (now (whole .exit)) (now (floats .exit))) ≡ fitCall (shape m0 n0 h) (survey (now (xs .entry)) (now (ys .entry)) (now (zs .entry)) (now (qs .entry))) (lent (now (lattice .entry)) (now (residual .entry)) (now (whole .entry)) (now (floats .entry))) ⌝ }
+    ensures { λ r. ⌜ Demand3 (shape m0 n0 h) (survey (now (xs .entry)) (now (ys .entry)) (now (zs .entry)) (now (qs .entry))) (told r) (now (lattice .exit)) ⌝ }
 {
-    if let Verdict::Refused(r) = survey::head(m0, n0, h, xs, ys, zs) {
+    if let Verdict::Refused(r) = survey::head(m0, n0, h, xs, ys, zs, qs) {
         return CellsTold::Refused(r);
     }
     let m = levels::cells(m0, h);
@@ -58,7 +59,7 @@ pub fn fit(
     ) {
         return CellsTold::Refused(r);
     }
-    let base = match base_of(m, n, xs, ys, zs) {
+    let base = match base_of(m, n, xs, ys, zs, qs) {
         BaseTold::Base(z) => z,
         BaseTold::Refused(r) => return CellsTold::Refused(r),
     };
@@ -70,6 +71,7 @@ pub fn fit(
         xs,
         ys,
         zs,
+        qs,
         base,
         lattice,
         residual,

@@ -18,8 +18,7 @@ use Rattle.rules.specs.Laws.Base.{length-differences}
 use Rattle.rules.specs.Laws.Checks.{AllInRange, then-none, then-some}
 use Rattle.rules.specs.Laws.Refused.{in-levels-only}
 use Rattle.answers.specs.Cause.{okCheck}
-use Rattle.lowering.specs.Lowered.{surveyAt}
-use Rattle.scratch.specs.Scratch.{Levelable, Levelled, area-within}
+use Rattle.scratch.specs.Scratch.{Levelable, surveyAt, Levelled, area-within}
 
 -- ---- the differences, where the residuals start
 
@@ -29,11 +28,11 @@ unfolding differences
 less-base zs d x-is e = e ∙ ap (λ y. over (shifted y zs) d) (x-is ∙ +ℤ-idl (negℤ (base zs)))
 
 -- there is room for them
-pub differences-fit : {a : Shape} {xs ys : List ℕ} {most F : ℕ} (zs whole : List ℤ) → Levelable a (fromBase (survey xs ys zs)) most (length whole) F
+pub differences-fit : {a : Shape} {xs ys qs : List ℕ} {most F : ℕ} (zs whole : List ℤ) → Levelable a (fromBase (survey xs ys zs qs)) most (length whole) F
     → length zs ≤ length (take (3 * most + length xs - 3 * most) (drop (3 * most) whole))
 differences-fit zs whole p = simp (length-take, length-drop) (omega (arith, p, length-differences zs, p .surveyed .as-many-z))
 
-module _ {a : Shape} {xs ys : List ℕ} {most F : ℕ} (zs whole : List ℤ) (p : Levelable a (fromBase (survey xs ys zs)) most (length whole) F) {part : List ℤ}
+module _ {a : Shape} {xs ys qs : List ℕ} {most F : ℕ} (zs whole : List ℤ) (p : Levelable a (fromBase (survey xs ys zs qs)) most (length whole) F) {part : List ℤ}
     (written : part ≡ over (differences zs) (take (3 * most + length xs - 3 * most) (drop (3 * most) whole))) where
   abbrev many : ℕ
   many = length xs
@@ -55,14 +54,14 @@ module _ {a : Shape} {xs ys : List ℕ} {most F : ℕ} (zs whole : List ℤ) (p 
   differences-there : area (3 * most) many started ≡ differences zs
   differences-there = ap (area (3 * most) many) differences-laid ∙ area-laid (3 * most) many (differences zs) whole (p .surveyed .as-many-z) (omega (arith, p))
 
-  pub levelable : Levelable a (surveyAt xs ys (3 * most) started) most (length started) F
+  pub levelable : Levelable a (surveyAt xs ys qs (3 * most) started) most (length started) F
   levelable = rw (differences-there, started-long) p
 
   -- ---- what the levels leave
 
-  module _ {found : Check} {now : List ℤ} (d : Levelled a (surveyAt xs ys (3 * most) started) most found now) (changed : Free 0 (3 * most + many) started now) where
+  module _ {found : Check} {now : List ℤ} (d : Levelled a (surveyAt xs ys qs (3 * most) started) most found now) (changed : Free 0 (3 * most + many) started now) where
     abbrev s : Survey
-    s = survey xs ys zs
+    s = survey xs ys zs qs
 
     done : Levelled a (fromBase s) most found now
     done = rw differences-there at d

@@ -23,20 +23,21 @@ pub fn run(
     xs: &[u16],
     ys: &[u16],
     zs: &[i64],
+    qs: &[u8],
     base: i64,
     lattice: &mut [i64],
     residual: &mut [i64],
     whole: &mut [i64],
     floats: &mut [f64],
 ) -> CellsTold
-    requires { ⌜ Levelable (shape m0 n0 h) (fromBase (survey (now xs) (now ys) (now zs))) most (length (now whole)) (length (now floats)) × (most ≤ length (now lattice)) × (length (now xs) ≤ length (now residual)) ⌝ }
+    requires { ⌜ Levelable (shape m0 n0 h) (fromBase (survey (now xs) (now ys) (now zs) (now qs))) most (length (now whole)) (length (now floats)) × (most ≤ length (now lattice)) × (length (now xs) ≤ length (now residual)) ⌝ }
     requires { ⌜ (base ≡ base-of (now zs)) × AllInRange (length (now zs)) (now zs) ⌝ }
-    ensures { λ r. ⌜ outcome (told r) (cleared (shape m0 n0 h) (length (now (xs .entry))) (lent (now (lattice .exit)) (now (residual .exit)) (now (whole .exit)) (now (floats .exit)))) ≡ fitEnd (shape m0 n0 h) (survey (now (xs .entry)) (now (ys .entry)) (now (zs .entry))) (lent (now (lattice .entry)) (now (residual .entry)) (now (whole .entry)) (now (floats .entry))) (inLevelsCheck (shape m0 n0 h) (survey (now (xs .entry)) (now (ys .entry)) (now (zs .entry)))) ⌝ }
+    ensures { λ r. ⌜ outcome (told r) (cleared (shape m0 n0 h) (length (now (xs .entry))) (lent (now (lattice .exit)) (now (residual .exit)) (now (whole .exit)) (now (floats .exit)))) ≡ fitEnd (shape m0 n0 h) (survey (now (xs .entry)) (now (ys .entry)) (now (zs .entry)) (now (qs .entry))) (lent (now (lattice .entry)) (now (residual .entry)) (now (whole .entry)) (now (floats .entry))) (inLevelsCheck (shape m0 n0 h) (survey (now (xs .entry)) (now (ys .entry)) (now (zs .entry)) (now (qs .entry)))) ⌝ }
 {
     let residuals = 3 * most;
     let end = residuals + xs.len();
     base::shift(zs, 0 - base, &mut whole[residuals..end]);
-    if let Verdict::Refused(r) = levels::fit_levels(m0, n0, h, most, xs, ys, whole, floats) {
+    if let Verdict::Refused(r) = levels::fit_levels(m0, n0, h, most, xs, ys, qs, whole, floats) {
         return CellsTold::Refused(r);
     }
     let from = h % 2 * most;

@@ -8,6 +8,7 @@ use native.Mathlib.Nat.{add-mul, mul-le-mul-right, div-add-mod', div-eq-of-lt-le
 use native.Mathlib.Decide.{ℕ-discrete, decLt}
 use native.Mathlib.Omega.{arith}
 use lib.Dec.{T, not-T, leb, ltb, leb→le, ltb→lt, le→leb, lt→ltb}
+use lib.IntN.{pos}
 use lib.Ieee.{Float, nan}
 use lib.Ieee.Bits.{is-true, is-false}
 use lib.ListN.{length, getD}
@@ -224,16 +225,16 @@ module _ (U m n : ℕ) (p : rule.Point) (across : 0 < m) (up : 0 < n) where
       r = cell U n (p .y)
 
       f : ℕ → ℕ → rule.Sums → rule.Sums
-      f k l = rule.grown (weightAt (pointBlock U m n p) k l) (rule.float (p .z)) (rule.squares (weightAt (pointBlock U m n p)))
+      f k l = rule.grown (rule.float (pos (p .q))) (weightAt (pointBlock U m n p) k l) (rule.float (p .z)) (rule.squares (weightAt (pointBlock U m n p)))
 
       at : (s t : ℕ) (v : rule.Sums) (b : Bool) → among r 4 t && among c 4 s ≡ b
-          → cond b (f (s - c) (t - r) v) v ≡ cond b (rule.grown (rule.weight U m n p (s - c) (t - r)) (rule.float (p .z)) (rule.squares (rule.weight U m n p)) v) v
+          → cond b (f (s - c) (t - r) v) v ≡ cond b (rule.grown (rule.float (pos (p .q))) (rule.weight U m n p (s - c) (t - r)) (rule.float (p .z)) (rule.squares (rule.weight U m n p)) v) v
       at s t v false e = refl
       at s t v true e =
           let b = and-yes (among r 4 t) (among c 4 s) (subst T (sym e) tt) in
           let x = bounds c 4 s (b .1) in
           let y = bounds r 4 t (b .0) in
-          ap₂ (λ w squares. rule.grown w (rule.float (p .z)) squares v) (weight-is U m n p (s - c) (t - r) (omega arith) (omega arith)) (squares-are U m n p)
+          ap₂ (λ w squares. rule.grown (rule.float (pos (p .q))) w (rule.float (p .z)) squares v) (weight-is U m n p (s - c) (t - r) (omega arith) (omega arith)) (squares-are U m n p)
 
 -- ---- the table of sums
 

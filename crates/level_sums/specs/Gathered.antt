@@ -3,6 +3,7 @@ use Prim.Native.Nat.{ℕ, _+_, _*_, _/_, _%_, _^_, _≤_, _<_}
 use mathlib.Core.Path.{_≡_}
 use mathlib.Core.List.{List, _++_}
 use lib.Ieee.{Float}
+use lib.IntN.{pos}
 use lib.ListN.{length}
 use Rattle.algebra.specs.Table.{tabulate}
 use Rattle.rules.specs.Grid.{controls}
@@ -16,7 +17,7 @@ use Rattle.point_sums.specs.Sums.{blockAdded}
 -- a point's part in its sixteen control values
 unfoldable pub pointAdded : ℕ → ℕ → ℕ → rule.Point → List Float → List Float
 pointAdded U m n p sums =
-    blockAdded (weightAt (pointBlock U m n p)) (rule.float (p .z)) (m + 3) (controls m n) sums (cell U n (p .y) * (m + 3) + cell U m (p .x))
+    blockAdded (rule.float (pos (p .q))) (weightAt (pointBlock U m n p)) (rule.float (p .z)) (m + 3) (controls m n) sums (cell U n (p .y) * (m + 3) + cell U m (p .x))
 
 -- count pairs as they stand in scratch, f q the one at place q
 unfoldable pub paired : ℕ → (ℕ → rule.Sums) → List Float
@@ -38,5 +39,6 @@ pub record Fittable (m n e : ℕ) (s : Survey) : Type 0 where
   pub grid : Gridded m n e
   pub as-many-y : length (s .ys) ≡ pointCount s
   pub as-many-z : length (s .zs) ≡ pointCount s
+  pub as-many-q : length (s .qs) ≡ pointCount s
   pub x-inside : (i : ℕ) → i < pointCount s → pointAt s i .x ≤ 2 ^ e * m
   pub y-inside : (i : ℕ) → i < pointCount s → pointAt s i .y ≤ 2 ^ e * n

@@ -9,9 +9,9 @@ ghost use Rattle.rules.specs.Fit.{survey, pointsOf};
 ghost use Rattle.level_sums.specs.Gathered.{pointAdded, sumTable, Fitting, Fittable};
 
 // One point's part in the sums.
-fn add_point(sums: &mut [f64], m: usize, n: usize, e: u32, x: usize, y: usize, z: i64)
+fn add_point(sums: &mut [f64], m: usize, n: usize, e: u32, x: usize, y: usize, z: i64, q: u8)
     requires { ⌜ Fitting m n e x y (length (now sums)) ⌝ }
-    ensures { λ _. ⌜ now (sums .exit) ≡ pointAdded (2 ^ e) m n (record { x = x; y = y; z = z }) (now (sums .entry)) ⌝ }
+    ensures { λ _. ⌜ now (sums .exit) ≡ pointAdded (2 ^ e) m n (record { x = x; y = y; z = z; q = q }) (now (sums .entry)) ⌝ }
 {
     let across = basis::locate(x, m, e);
     let up = basis::locate(y, n, e);
@@ -23,6 +23,7 @@ fn add_point(sums: &mut [f64], m: usize, n: usize, e: u32, x: usize, y: usize, z
         up.cell * width + across.cell,
         count,
         width,
+        q as f64,
         w,
         std::num::nearest_i64_to_f64(z),
     );
@@ -41,16 +42,25 @@ pub fn clear(count: usize, sums: &mut [f64])
 }
 
 // Both sums of every control value from 0, points in list order.
-pub fn gather(m: usize, n: usize, e: u32, xs: &[u16], ys: &[u16], zs: &[i64], sums: &mut [f64])
-    requires { ⌜ Fittable m n e (survey (now xs) (now ys) (now zs)) ⌝ }
+pub fn gather(
+    m: usize,
+    n: usize,
+    e: u32,
+    xs: &[u16],
+    ys: &[u16],
+    zs: &[i64],
+    qs: &[u8],
+    sums: &mut [f64],
+)
+    requires { ⌜ Fittable m n e (survey (now xs) (now ys) (now zs) (now qs)) ⌝ }
     requires { ⌜ 2 * controls m n ≤ length (now sums) ⌝ }
-    ensures { λ _. ⌜ now (sums .exit) ≡ over (sumTable (2 ^ e) m n (pointsOf (survey (now (xs .entry)) (now (ys .entry)) (now (zs .entry))))) (now (sums .entry)) ⌝ }
+    ensures { λ _. ⌜ now (sums .exit) ≡ over (sumTable (2 ^ e) m n (pointsOf (survey (now (xs .entry)) (now (ys .entry)) (now (zs .entry)) (now (qs .entry))))) (now (sums .entry)) ⌝ }
 {
     let count = (m + 3) * (n + 3);
     clear(2 * count, sums);
     let mut i = 0;
     while i < xs.len() {
-        add_point(sums, m, n, e, xs[i] as usize, ys[i] as usize, zs[i]);
+        add_point(sums, m, n, e, xs[i] as usize, ys[i] as usize, zs[i], qs[i]);
         i += 1;
     }
 }

@@ -14,8 +14,7 @@ use Rattle.rules.specs.Grid.{cellsAt}
 use Rattle.rules.specs.Fit.{Shape, columns, rows, unitOf, Survey, pointCount, residuals, levelCheck, levelsCheck, quotientCheck, residualCheck, sumCheck}
 use Rattle.rules.specs.Calls.{K}
 use Rattle.rules.specs.Laws.Checks.{then-none, then-assoc, firstOf-at}
-use Rattle.lowering.specs.Lowered.{surveyAt}
-use Rattle.scratch.specs.Scratch.{Levelable, Before, LevelReady, RunningThere, Judged, FirstHalf, SecondHalf, WholeLevel, Levelled}
+use Rattle.scratch.specs.Scratch.{Levelable, surveyAt, Before, LevelReady, RunningThere, Judged, FirstHalf, SecondHalf, WholeLevel, Levelled}
 use Rattle.scratch.specs.Sizes.{celled, unit-is, span}
 use Rattle.scratch.specs.Judging.{judged-refused, first-refused, then-judged}
 use Rattle.scratch.specs.Kept.{residuals-kept}
@@ -33,10 +32,13 @@ level-ready {a = a} {k = k} p b l m-is n-is = record {
   before = b;
   as-many-y = p .surveyed .as-many-y;
   as-many-z = p .surveyed .as-many-z;
+  as-many-q = p .surveyed .as-many-q;
   placed = λ i h. record {
     x-inside = rw (unit-is a k l, m-is, span (a .m0) (a .h) k l) (p .placed i h .x-inside);
     y-inside = rw (unit-is a k l, n-is, span (a .n0) (a .h) k l) (p .placed i h .y-inside);
     z-size = b .residuals-there .ranged i h;
+    q-some = p .placed i h .q-some;
+    q-most = p .placed i h .q-most;
   };
   whole-room = p .whole-room;
   floats-room = p .floats-room;
@@ -74,8 +76,8 @@ pub record Passing (a : Shape) (s : Survey) (most k : ℕ) (whole₀ whole : Lis
   pub floats-free : Free 0 (2 * most) floats₀ floats
 
 -- "Residuals start as z", or as what stands in their place
-pub beginning : {a : Shape} {most : ℕ} {xs ys : List ℕ} {whole : List ℤ} {floats : List Float} → Levelable a (surveyAt xs ys (3 * most) whole) most (length whole) (length floats)
-    → Passing a (surveyAt xs ys (3 * most) whole) most 0 whole whole floats floats
+pub beginning : {a : Shape} {most : ℕ} {xs ys qs : List ℕ} {whole : List ℤ} {floats : List Float} → Levelable a (surveyAt xs ys qs (3 * most) whole) most (length whole) (length floats)
+    → Passing a (surveyAt xs ys qs (3 * most) whole) most 0 whole whole floats floats
 unfolding firstOf residuals
 beginning {most = most} {xs = xs} p = record {
   within = omega arith;

@@ -10,8 +10,7 @@ ghost use Rattle.algebra.specs.Table.{Free};
 ghost use Rattle.rules.specs.Grid.{cellsAt};
 ghost use Rattle.rules.specs.Fit as rule;
 ghost use Rattle.answers.specs.Cause.{check};
-ghost use Rattle.lowering.specs.Lowered.{surveyAt};
-ghost use Rattle.scratch.specs.Scratch.{Levelable, Before, WholeLevel, Levelled};
+ghost use Rattle.scratch.specs.Scratch.{Levelable, surveyAt, Before, WholeLevel, Levelled};
 use answers::Verdict;
 
 // "Level k has m = m0 × 2^k by n = n0 × 2^k cells"
@@ -31,11 +30,12 @@ fn fit_level(
     most: usize,
     xs: &[u16],
     ys: &[u16],
+    qs: &[u8],
     whole: &mut [i64],
     floats: &mut [f64],
 ) -> Verdict
-    requires { ⌜ ((zs : List ℤ) × Levelable (rule.shape m0 n0 h) (rule.survey (now xs) (now ys) zs) most (length (now whole)) (length (now floats)) × Before (rule.shape m0 n0 h) (rule.survey (now xs) (now ys) zs) most k (now whole)) × (k ≤ h) ⌝ }
-    ensures { λ r. ⌜ ((zs : List ℤ) → Levelable (rule.shape m0 n0 h) (rule.survey (now (xs .entry)) (now (ys .entry)) zs) most (length (now (whole .entry))) (length (now (floats .entry))) → Before (rule.shape m0 n0 h) (rule.survey (now (xs .entry)) (now (ys .entry)) zs) most k (now (whole .entry)) → WholeLevel (rule.shape m0 n0 h) (rule.survey (now (xs .entry)) (now (ys .entry)) zs) most k (check r) (now (whole .exit))) ⌝ }
+    requires { ⌜ ((zs : List ℤ) × Levelable (rule.shape m0 n0 h) (rule.survey (now xs) (now ys) zs (now qs)) most (length (now whole)) (length (now floats)) × Before (rule.shape m0 n0 h) (rule.survey (now xs) (now ys) zs (now qs)) most k (now whole)) × (k ≤ h) ⌝ }
+    ensures { λ r. ⌜ ((zs : List ℤ) → Levelable (rule.shape m0 n0 h) (rule.survey (now (xs .entry)) (now (ys .entry)) zs (now (qs .entry))) most (length (now (whole .entry))) (length (now (floats .entry))) → Before (rule.shape m0 n0 h) (rule.survey (now (xs .entry)) (now (ys .entry)) zs (now (qs .entry))) most k (now (whole .entry)) → WholeLevel (rule.shape m0 n0 h) (rule.survey (now (xs .entry)) (now (ys .entry)) zs (now (qs .entry))) most k (check r) (now (whole .exit))) ⌝ }
     ensures { λ _. ⌜ Free 0 (3 * most + length (now (xs .entry))) (now (whole .entry)) (now (whole .exit)) × Free 0 (2 * most) (now (floats .entry)) (now (floats .exit)) ⌝ }
 {
     let m = cells(m0, k);
@@ -49,6 +49,7 @@ fn fit_level(
         most,
         xs,
         ys,
+        qs,
         whole,
         floats,
     ) {
@@ -65,16 +66,17 @@ pub fn fit_levels(
     most: usize,
     xs: &[u16],
     ys: &[u16],
+    qs: &[u8],
     whole: &mut [i64],
     floats: &mut [f64],
 ) -> Verdict
-    requires { ⌜ Levelable (rule.shape m0 n0 h) (surveyAt (now xs) (now ys) (3 * most) (now whole)) most (length (now whole)) (length (now floats)) ⌝ }
-    ensures { λ r. ⌜ Levelled (rule.shape m0 n0 h) (surveyAt (now (xs .entry)) (now (ys .entry)) (3 * most) (now (whole .entry))) most (check r) (now (whole .exit)) ⌝ }
+    requires { ⌜ Levelable (rule.shape m0 n0 h) (surveyAt (now xs) (now ys) (now qs) (3 * most) (now whole)) most (length (now whole)) (length (now floats)) ⌝ }
+    ensures { λ r. ⌜ Levelled (rule.shape m0 n0 h) (surveyAt (now (xs .entry)) (now (ys .entry)) (now (qs .entry)) (3 * most) (now (whole .entry))) most (check r) (now (whole .exit)) ⌝ }
     ensures { λ _. ⌜ Free 0 (3 * most + length (now (xs .entry))) (now (whole .entry)) (now (whole .exit)) × Free 0 (2 * most) (now (floats .entry)) (now (floats .exit)) ⌝ }
 {
     let mut k = 0;
     while k <= h {
-        if let Verdict::Refused(r) = fit_level(m0, n0, h, k, most, xs, ys, whole, floats) {
+        if let Verdict::Refused(r) = fit_level(m0, n0, h, k, most, xs, ys, qs, whole, floats) {
             return Verdict::Refused(r);
         }
         k += 1;

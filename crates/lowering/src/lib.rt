@@ -3,7 +3,7 @@ ghost use lib.ListN.{length};
 ghost use Rattle.algebra.specs.Table.{area};
 ghost use Rattle.rules.specs.Grid.{controls};
 ghost use Rattle.fit_steps.specs.Steps.{Written};
-ghost use Rattle.lowering.specs.Lowered.{surveyAt, lessHeights, Lowerable};
+ghost use Rattle.lowering.specs.Lowered.{lessHeights, Lowerable};
 
 // "take from each residual the height of level lattice k there": false where a residual leaves its range
 pub fn lower(
@@ -17,7 +17,7 @@ pub fn lower(
     residuals: usize,
 ) -> bool
     requires { ⌜ Lowerable m n e (now xs) (now ys) (now whole) level residuals ⌝ }
-    ensures { λ ok. ⌜ Written ok residuals (length (now (xs .entry))) (lessHeights m n e (area level (controls m n) (now (whole .entry))) (surveyAt (now (xs .entry)) (now (ys .entry)) residuals (now (whole .entry)))) (now (whole .entry)) (now (whole .exit)) ⌝ }
+    ensures { λ ok. ⌜ Written ok residuals (length (now (xs .entry))) (lessHeights m n e (area level (controls m n) (now (whole .entry))) (now (xs .entry)) (now (ys .entry)) (area residuals (length (now (xs .entry))) (now (whole .entry)))) (now (whole .entry)) (now (whole .exit)) ⌝ }
 {
     let end = level + (m + 3) * (n + 3);
     let mut i = 0;

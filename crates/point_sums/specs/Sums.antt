@@ -27,6 +27,6 @@ unfoldable pub rows : (ℕ → ℕ → rule.Sums → rule.Sums) → ℕ → ℕ 
 rows f width count zero sums q = sums
 rows f width count (suc n) sums q = row (λ k. f k n) count (rows f width count n sums q) (q + n * width)
 
--- a block of weights added, from place q on
-abbrev pub blockAdded : (ℕ → ℕ → Float) → Float → ℕ → ℕ → List Float → ℕ → List Float
-blockAdded w z width count = rows (λ k l. rule.grown (w k l) z (rule.squares w)) width count 4
+-- a block of weights added with a confidence, from place q on
+abbrev pub blockAdded : Float → (ℕ → ℕ → Float) → Float → ℕ → ℕ → List Float → ℕ → List Float
+blockAdded confidence w z width count = rows (λ k l. rule.grown confidence (w k l) z (rule.squares w)) width count 4

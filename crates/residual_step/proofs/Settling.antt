@@ -22,7 +22,7 @@ use Rattle.level_sums.specs.Pairs.{length-sums}
 use Rattle.level_values.specs.Values.{settledAt, SettledAll}
 use Rattle.residual_step.proofs.Level.{values-table, refused-table}
 use Rattle.fit_steps.specs.Steps.{Written}
-use Rattle.lowering.specs.Lowered.{surveyAt, lessHeights, Lowerable}
+use Rattle.lowering.specs.Lowered.{lessHeights, Lowerable}
 use Rattle.scratch.specs.Scratch.{LevelReady, Halfway, Judged, places}
 use Rattle.scratch.specs.Sizes.{count-is, few}
 use Rattle.scratch.specs.Judging.{judged}
@@ -57,7 +57,7 @@ module _ {a : Shape} {s : Survey} {most k m n e : ℕ} {whole : List ℤ} {F : �
   pub fittable : Fittable m n e (valued s (partAt (3 * most) (pointCount s) whole))
   fittable =
       rw lent-is
-      (record { grid = grid; as-many-y = b .as-many-y; as-many-z = length-residuals a s k (b .as-many-z); x-inside = λ i h. b .placed i h .x-inside; y-inside = λ i h. b .placed i h .y-inside })
+      (record { grid = grid; as-many-y = b .as-many-y; as-many-z = length-residuals a s k (b .as-many-z); as-many-q = b .as-many-q; x-inside = λ i h. b .placed i h .x-inside; y-inside = λ i h. b .placed i h .y-inside })
 
   -- ---- what `gather` leaves
 
@@ -116,19 +116,21 @@ module _ {a : Shape} {s : Survey} {most k m n e : ℕ} {whole : List ℤ} {F : �
     lowerable = record {
       grid = grid;
       as-many-y = b .as-many-y;
-      placed = λ i l. rw (h .residuals-there .is) (b .placed i l);
+      x-inside = λ i l. b .placed i l .x-inside;
+      y-inside = λ i l. b .placed i l .y-inside;
       apart = omega (arith, b);
       room = room;
       level-ranged = rw (level-at, count-is (b .celled)) (level-ranged a s k);
+      residuals-ranged = rw (h .residuals-there .is) (h .residuals-there .ranged);
     }
 
-    lowered-is : lessHeights m n e (area (2 * most) (controls m n) now) (surveyAt (s .xs) (s .ys) (3 * most) now) ≡ residuals a s (suc k)
+    lowered-is : lessHeights m n e (area (2 * most) (controls m n) now) (s .xs) (s .ys) (area (3 * most) (pointCount s) now) ≡ residuals a s (suc k)
     unfolding lessHeights residuals lowered levelHeight level
     lowered-is = tabulate-same (pointCount s) _ _ (λ i l. rw (level-at, h .residuals-there .is, b .unit-is, b .celled .m-is, b .celled .n-is))
 
     -- what it finds and leaves
     module _ {ok : Bool} {last : List ℤ}
-        (w : Written ok (3 * most) (pointCount s) (lessHeights m n e (area (2 * most) (controls m n) now) (surveyAt (s .xs) (s .ys) (3 * most) now)) now last) where
+        (w : Written ok (3 * most) (pointCount s) (lessHeights m n e (area (2 * most) (controls m n) now) (s .xs) (s .ys) (area (3 * most) (pointCount s) now)) now last) where
       pub lowered-free : Free 0 (3 * most + pointCount s) now last
       lowered-free = free-wider (w .free) room 0 (3 * most + pointCount s) (omega arith) (omega arith) (omega arith)
 

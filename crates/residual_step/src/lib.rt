@@ -19,11 +19,12 @@ pub fn settle_level(
     most: usize,
     xs: &[u16],
     ys: &[u16],
+    qs: &[u8],
     whole: &mut [i64],
     floats: &mut [f64],
 ) -> Verdict
-    requires { ⌜ ((a : rule.Shape) × (zs : List ℤ) × LevelReady a (rule.survey (now xs) (now ys) zs) most k m n e (now whole) (length (now floats))) ⌝ }
-    ensures { λ r. ⌜ ((a : rule.Shape) (zs : List ℤ) → LevelReady a (rule.survey (now (xs .entry)) (now (ys .entry)) zs) most k m n e (now (whole .entry)) (length (now (floats .entry))) → FirstHalf a (rule.survey (now (xs .entry)) (now (ys .entry)) zs) most k (check r) (now (whole .exit))) ⌝ }
+    requires { ⌜ ((a : rule.Shape) × (zs : List ℤ) × LevelReady a (rule.survey (now xs) (now ys) zs (now qs)) most k m n e (now whole) (length (now floats))) ⌝ }
+    ensures { λ r. ⌜ ((a : rule.Shape) (zs : List ℤ) → LevelReady a (rule.survey (now (xs .entry)) (now (ys .entry)) zs (now (qs .entry))) most k m n e (now (whole .entry)) (length (now (floats .entry))) → FirstHalf a (rule.survey (now (xs .entry)) (now (ys .entry)) zs (now (qs .entry))) most k (check r) (now (whole .exit))) ⌝ }
     ensures { λ _. ⌜ Free 0 (3 * most + length (now (xs .entry))) (now (whole .entry)) (now (whole .exit)) × Free 0 (2 * most) (now (floats .entry)) (now (floats .exit)) ⌝ }
 {
     let count = (m + 3) * (n + 3);
@@ -31,7 +32,7 @@ pub fn settle_level(
     let level_end = level + count;
     let residuals = 3 * most;
     let end = residuals + xs.len();
-    level_sums::gather(m, n, e, xs, ys, &whole[residuals..end], floats);
+    level_sums::gather(m, n, e, xs, ys, &whole[residuals..end], qs, floats);
     if !level_values::settle_all(count, floats, &mut whole[level..level_end]) {
         return Verdict::Refused(Refusal::Quotient(k));
     }

@@ -11,7 +11,7 @@ use lib.ListN.{length, take, drop}
 use Rattle.algebra.specs.Table.{area, area-part, length-area}
 use Rattle.rules.specs.Answers.{Check, _then_}
 use Rattle.rules.specs.Grid.{controls}
-use Rattle.rules.specs.Fit.{Shape, columns, rows, unitOf, Survey, pointCount, valued, residuals, level, running, quotientCheck, residualCheck, sumCheck, levelCheck, levelsCheck}
+use Rattle.rules.specs.Fit.{Shape, columns, rows, unitOf, Survey, survey, pointCount, valued, residuals, level, running, quotientCheck, residualCheck, sumCheck, levelCheck, levelsCheck}
 use Rattle.rules.specs.Calls.{K}
 use Rattle.rules.specs.Laws.Checks.{AllInRange}
 use Rattle.rules.specs.Laws.Passed.{Sides, Surveyed, Placed}
@@ -50,6 +50,10 @@ pub part-ranged : (n k : ℕ) (whole : List ℤ) → n + k ≤ length whole → 
     → AllInRange (length (take (n + k - n) (drop n whole))) (take (n + k - n) (drop n whole))
 part-ranged n k whole room ranged = rw (area-part n k whole, length-area n k whole room) ranged
 
+-- a survey whose values stand in scratch, from place n on
+abbrev pub surveyAt : List ℕ → List ℕ → List ℕ → ℕ → List ℤ → Survey
+surveyAt xs ys qs n whole = survey xs ys (area n (length xs) whole) qs
+
 -- running lattice k in its area
 pub record RunningThere (a : Shape) (s : Survey) (most k : ℕ) (whole : List ℤ) : Type 0 where
   pub is : area (k % 2 * most) (places a k) whole ≡ running a s k
@@ -83,6 +87,7 @@ pub record LevelReady (a : Shape) (s : Survey) (most k m n e : ℕ) (whole : Lis
   pub before : Before a s most k whole
   pub as-many-y : length (s .ys) ≡ pointCount s
   pub as-many-z : length (s .zs) ≡ pointCount s
+  pub as-many-q : length (s .qs) ≡ pointCount s
   pub placed : (i : ℕ) → i < pointCount s → Placed (2 ^ e) m n (valued s (residuals a s k)) i
   pub whole-room : 3 * most + pointCount s ≤ length whole
   pub floats-room : 2 * most ≤ floats

@@ -25,10 +25,10 @@ told-next c d b e is = is ∙ ap (λ k. answer k b) (sym (then-none c d e))
 
 module _ (c : tie.After-points) where
   abbrev start : tie.Start
-  start = c .before .before .before
+  start = c .before .before .before .before
 
   abbrev s : Survey
-  s = survey (start .args .xs .now) (start .args .ys .now) (start .args .zs .now)
+  s = survey (start .args .xs .now) (start .args .ys .now) (start .args .zs .now) (start .args .qs .now)
 
   abbrev asked : Check
   asked = pointsCheck 16 (start .args .m) (start .args .n) s

@@ -25,13 +25,13 @@ use Rattle.fit.proofs.fit.Tie as tie
 
 module _ (c : tie.After-head) where
   abbrev start : tie.Start
-  start = c .before .before .before .before
+  start = c .before .before .before .before .before
 
   abbrev a : Shape
   a = shape (start .args .m0) (start .args .n0) (start .args .h)
 
   abbrev s : Survey
-  s = survey (start .args .xs .now) (start .args .ys .now) (start .args .zs .now)
+  s = survey (start .args .xs .now) (start .args .ys .now) (start .args .zs .now) (start .args .qs .now)
 
   abbrev slices : Lent
   slices = lent (start .args .lattice .now) (start .args .residual .now) (start .args .whole .now) (start .args .floats .now)
@@ -161,7 +161,7 @@ base-of-requires : tie.Need-base-of-requires
 base-of-requires c κs =
     let b = roomed c .before in
     let w = shown (second b) in
-    (celled b .sides .1, celled b .sides .3, w .as-many-y, w .as-many-z, w .points-most)
+    (celled b .sides .1, celled b .sides .3, w .as-many-y, w .as-many-z, w .as-many-q, w .points-most)
 
 enum-known-z : tie.Need-enum-known-z
 enum-known-z c = search needs
@@ -191,13 +191,13 @@ add-clear : tie.Need-add-clear
 add-clear c = let b = counted (settled (checked (c .before .before .before .before .before))) in omega (arith, celled b, shown (second b))
 
 clear-requires : tie.Need-clear-requires
-clear-requires c κs = let r = c .before .before .before .before .before .before in omega (arith, lengths (settled (checked r)), r .run .kept .1 .1 .1 .1 .1 .1 .1 .1 .1 .1 .0)
+clear-requires c κs = let r = c .before .before .before .before .before .before in omega (arith, lengths (settled (checked r)), r .run .kept .1 .1 .1 .1 .1 .1 .1 .1 .1 .1 .1 .0)
 
 mul-clear-2 : tie.Need-mul-clear-2
 mul-clear-2 c = omega (arith, celled (counted (settled (checked (c .before .before .before .before .before .before .before .before)))))
 
 clear-requires-2 : tie.Need-clear-requires-2
-clear-requires-2 c κs = let r = c .before .before .before .before .before .before .before .before .before in omega (arith, lengths (settled (checked r)), r .run .kept .1 .1 .1 .1 .1 .1 .1 .1 .1 .1 .1 .0)
+clear-requires-2 c κs = let r = c .before .before .before .before .before .before .before .before .before in omega (arith, lengths (settled (checked r)), r .run .kept .1 .1 .1 .1 .1 .1 .1 .1 .1 .1 .1 .1 .0)
 
 same-length : tie.Need-same-length
 same-length c = search needs
@@ -218,7 +218,7 @@ returns-4 c =
     let z = checked r in
     let q = settled z in
     let f = lender q in
-    let last = r .run .last .1 .1 .1 .1 .1 .1 .1 .1 in
+    let last = r .run .last .1 .1 .1 .1 .1 .1 .1 .1 .1 in
     run-cleared (a f) (s f) (slices f) (head-none (second (counted q))) (room-none (q .before)) (lent (last .0) (last .1 .0) (last .1 .1 .0) (last .1 .1 .1 .0))
     (points-none z) (most-is (celled (counted q))) (r .run .ensures) (w .clear .ensures) (c .before .before .clear2 .ensures)
 

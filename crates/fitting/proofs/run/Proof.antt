@@ -33,7 +33,7 @@ module _ (c : tie.Start) where
 
 module _ (c : tie.After-shift) where
   abbrev start : tie.Start
-  start = c .before .before .before .before .before
+  start = c .before .before .before .before .before .before
 
   abbrev heights : List ℤ
   heights = start .args .zs .now
@@ -54,7 +54,7 @@ module _ (c : tie.After-enum-told) where
   levelled = c .before .before .before .before .before
 
   -- the last running lattice, where it stands
-  room : given levelled .args .h % 2 * given levelled .args .most + given levelled .args .most ≤ length (levelled .fit-levels .last .1 .1 .1 .1 .1 .1 .0)
+  room : given levelled .args .h % 2 * given levelled .args .most + given levelled .args .most ≤ length (levelled .fit-levels .last .1 .1 .1 .1 .1 .1 .1 .0)
   room =
       let l = levelled in
       let s = given l in
@@ -79,7 +79,7 @@ add-end : tie.Need-add-end
 add-end c = search needs
 
 sub-shift : tie.Need-sub-shift
-sub-shift c = fits tt (lowering (c .before .before .before) .held)
+sub-shift c = fits tt (lowering (c .before .before .before .before) .held)
 
 mul-shift : tie.Need-mul-shift
 mul-shift c = search needs
@@ -95,7 +95,7 @@ part-shift-end c = search needs
 
 shift-requires : tie.Need-shift-requires
 shift-requires c κs =
-    let s = c .before .before .before .before in
+    let s = c .before .before .before .before .before in
     (differences-fit (s .args .zs .now) (s .args .whole .now) (s .pre .0 .0), s .pre .1 .1, small limit tt (read tt (lowering s .held)))
 
 fit-levels-requires : tie.Need-fit-levels-requires

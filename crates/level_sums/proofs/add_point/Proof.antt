@@ -1,10 +1,10 @@
 -- `level_sums::add_point` meets its contract: the block that the code makes has the rule's weights, and its sixteen places lie in the lattice.
 use borrow.Author.Needs.{needs}
 use Prim.Native.Nat.{ℕ, _+_, _*_, _^_, _≤_, _<_}
-use mathlib.Core.Path.{_≡_, ap, _∙_}
+use mathlib.Core.Path.{_≡_, refl, ap, _∙_}
 use mathlib.Core.List.{List}
 use native.Mathlib.Omega.{arith}
-use lib.IntN.{ℤ}
+use lib.IntN.{ℤ, pos}
 use lib.Ieee.{Float}
 use lib.Pow.{pow-pos}
 use mir.Syntax.{w64}
@@ -28,9 +28,9 @@ asked : (e : ℕ) {m x : ℕ} {at : Spot} → Located at (2 ^ e) m x → 0 < m �
 asked e {m} {x} l some inside = rw (l .offset-is) (offset-within (2 ^ e) m x (pow-pos e) some inside)
 
 module _ {m n e x y long : ℕ} (f : Fitting m n e x y long) {across up : Spot} (ax : Located across (2 ^ e) m x) (ay : Located up (2 ^ e) n y) where
-  module _ (v : ℤ) where
+  module _ (v : ℤ) (q : ℕ) where
     abbrev point : rule.Point
-    point = record { x = x; y = y; z = v }
+    point = record { x = x; y = y; z = v; q = q }
 
     place-is : up .cell * (m + 3) + across .cell ≡ placeOf (2 ^ e) m n point
     place-is = rw (ax .cell-is, ay .cell-is)
@@ -38,11 +38,11 @@ module _ {m n e x y long : ℕ} (f : Fitting m n e x y long) {across up : Spot} 
     place-room : up .cell * (m + 3) + across .cell + (m + 3) + (m + 3) + (m + 3) + 4 ≤ controls m n
     place-room = omega (arith, place-is, room (2 ^ e) m n point (f .grid .m-some) (f .grid .n-some))
 
-    added : {b c : List Float} {w : List (List Float)} {z : Float} {now : List Float} (sums : List Float)
-        → b ≡ tabulate 4 (rule.basis (2 ^ e) (across .offset)) → c ≡ tabulate 4 (rule.basis (2 ^ e) (up .offset)) → w ≡ blockOf b c → z ≡ rule.float v
-        → now ≡ blockAdded (weightAt w) z (m + 3) (controls m n) sums (up .cell * (m + 3) + across .cell) → now ≡ pointAdded (2 ^ e) m n point sums
+    added : {b c : List Float} {w : List (List Float)} {z confidence : Float} {now : List Float} (sums : List Float)
+        → b ≡ tabulate 4 (rule.basis (2 ^ e) (across .offset)) → c ≡ tabulate 4 (rule.basis (2 ^ e) (up .offset)) → w ≡ blockOf b c → z ≡ rule.float v → confidence ≡ rule.float (pos q)
+        → now ≡ blockAdded confidence (weightAt w) z (m + 3) (controls m n) sums (up .cell * (m + 3) + across .cell) → now ≡ pointAdded (2 ^ e) m n point sums
     unfolding pointAdded pointBlock
-    added sums eb ec ew ez g = rw (g, ew, eb, ec, ez, place-is, ax .offset-is, ay .offset-is)
+    added sums eb ec ew ez eq g = rw (g, ew, eb, ec, ez, eq, place-is, ax .offset-is, ay .offset-is)
 
 -- ---- the needs
 
@@ -54,7 +54,7 @@ module _ (c : tie.After-locate2) where
   fits =
       omega (
         arith,
-        place-room (start .pre) (c .before .locate .ensures) (c .locate2 .ensures) (start .args .z),
+        place-room (start .pre) (c .before .locate .ensures) (c .locate2 .ensures) (start .args .z) (start .args .q),
         controls-most (start .args .m) (start .args .n) (start .pre .grid .m-most) (start .pre .grid .n-most),
       )
 
@@ -79,18 +79,18 @@ add-add-block c = record { fits = fits (c .before .before .before .before .befor
 add-block-requires : tie.Need-add-block-requires
 unfolding controls
 add-block-requires c κs =
-    let l = c .before .before .before .before .before .before .before in
-    omega (arith, place-room (start l .pre) (l .before .locate .ensures) (l .locate2 .ensures) (start l .args .z), start l .pre .room)
+    let l = c .before .before .before .before .before .before .before .before in
+    omega (arith, place-room (start l .pre) (l .before .locate .ensures) (l .locate2 .ensures) (start l .args .z) (start l .args .q), start l .pre .room)
 
 returns : tie.Need-returns
 unfolding controls
 returns c =
     let d = c .before .before in
     let z = d .before in
-    let w = z .before .before .before .before in
+    let w = z .before .before .before .before .before in
     let l = w .before .before .before in
-    added (start l .pre) (l .before .locate .ensures) (l .locate2 .ensures) (start l .args .z) (start l .args .sums .now)
-    (w .before .before .axis .ensures) (w .before .axis2 .ensures) (w .block .ensures) (z .nearest-i64-to-f64 .ensures ∙ ap rule.float (toZ-ofZ w64 _ (start l .fits .z))) (d .add-block .ensures)
+    added (start l .pre) (l .before .locate .ensures) (l .locate2 .ensures) (start l .args .z) (start l .args .q) (start l .args .sums .now)
+    (w .before .before .axis .ensures) (w .before .axis2 .ensures) (w .block .ensures) (z .nearest-i64-to-f64 .ensures ∙ ap rule.float (toZ-ofZ w64 _ (start l .fits .z))) refl (d .add-block .ensures)
 
 pub add-point-spec : {M : Type 1} → statement M
 add-point-spec =
@@ -106,6 +106,7 @@ add-point-spec =
     mul-count
     mul-add-block
     add-add-block
+    (λ c. search needs)
     (λ c κs. search needs)
     add-block-requires
     (λ c. search needs)

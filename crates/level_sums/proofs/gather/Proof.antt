@@ -30,7 +30,7 @@ module _ {m n e : ℕ} {s : Survey} (f : Fittable m n e s) where
   fitting i long h g = record { grid = f .grid; x-inside = f .x-inside i h; y-inside = f .y-inside i h; room = g }
 
   next : (i : ℕ) (d : List Float) {sums now : List Float} {v : ℤ} → 2 * controls m n ≤ length d → sums ≡ first m n e s i d → v ≡ pointAt s i .z
-      → now ≡ pointAdded (2 ^ e) m n (record { x = pointAt s i .x; y = pointAt s i .y; z = v }) sums → now ≡ first m n e s (i + 1) d
+      → now ≡ pointAdded (2 ^ e) m n (record { x = pointAt s i .x; y = pointAt s i .y; z = v; q = pointAt s i .q }) sums → now ≡ first m n e s (i + 1) d
   unfolding tabulate
   next i d long is z g =
       rw (g, is, z, add-one i) (one-more (2 ^ e) m n (tabulate i (pointAt s)) (pointAt s i) d (f .grid .m-some) (f .grid .n-some) long)
@@ -47,20 +47,20 @@ module _ (m n e : ℕ) (d : List Float) {cleared : List Float} (is : cleared ≡
 -- ---- the loop
 
 abbrev Inv-loop : tie.InvT-loop
-Inv-loop m n e xs ys zs sums₀ count i₀ sums i = (i ≤ length xs) × (length sums ≡ length sums₀) × (sums ≡ first m n e (survey xs ys zs) i sums₀)
+Inv-loop m n e xs ys zs qs sums₀ count i₀ sums i = (i ≤ length xs) × (length sums ≡ length sums₀) × (sums ≡ first m n e (survey xs ys zs qs) i sums₀)
 
 abbrev μ-loop : tie.MeasureT-loop
-μ-loop m n e xs ys zs sums₀ count i₀ sums i = length xs - i
+μ-loop m n e xs ys zs qs sums₀ count i₀ sums i = length xs - i
 
 -- ---- the needs
 
 -- where the loop begins
 module _ (c : tie.After-slice-known2 Inv-loop μ-loop) where
   abbrev start : tie.Start Inv-loop μ-loop
-  start = c .before .before .before .before .before .before .before
+  start = c .before .before .before .before .before .before .before .before
 
   abbrev points : Survey
-  points = survey (start .args .xs .now) (start .args .ys .now) (start .args .zs .now)
+  points = survey (start .args .xs .now) (start .args .ys .now) (start .args .zs .now) (start .args .qs .now)
 
   abbrev cleared : List Float
   cleared = c .before .before .clear .last .1 .0
@@ -80,15 +80,15 @@ add-count-2 c = omega arith
 
 mul-count : tie.Need-mul-count Inv-loop μ-loop
 unfolding controls
-mul-count c = let s = c .before .before .before in omega (arith, most (s .pre .0))
+mul-count c = let s = c .before .before .before .before in omega (arith, most (s .pre .0))
 
 mul-clear : tie.Need-mul-clear Inv-loop μ-loop
 unfolding controls
-mul-clear c = let s = c .before .before .before in omega (arith, most (s .pre .0))
+mul-clear c = let s = c .before .before .before .before in omega (arith, most (s .pre .0))
 
 clear-requires : tie.Need-clear-requires Inv-loop μ-loop
 unfolding controls
-clear-requires c κs = c .before .before .before .before .pre .1
+clear-requires c κs = c .before .before .before .before .before .pre .1
 
 loop-holds : tie.Need-loop-holds Inv-loop μ-loop
 unfolding tabulate
@@ -101,7 +101,7 @@ shared-slice-read-add-point : tie.Need-shared-slice-read-add-point Inv-loop μ-l
 shared-slice-read-add-point c = omega arith
 
 cast-add-point : tie.Need-cast-add-point Inv-loop μ-loop
-cast-add-point c = omega (arith, c .shared-slice-known3 .given (c .before .before .before .loop .i))
+cast-add-point c = omega (arith, c .shared-slice-known4 .given (c .before .before .before .loop .i))
 
 mul-add-point-2 : tie.Need-mul-add-point-2 Inv-loop μ-loop
 mul-add-point-2 c = omega (arith, start (c .before .before .before .before) .good .1 .1 .1 .0 .1)
@@ -110,7 +110,7 @@ shared-slice-read-add-point-2 : tie.Need-shared-slice-read-add-point-2 Inv-loop 
 shared-slice-read-add-point-2 c = omega (arith, start (c .before .before .before .before .before) .pre .0 .as-many-y)
 
 cast-add-point-2 : tie.Need-cast-add-point-2 Inv-loop μ-loop
-cast-add-point-2 c = omega (arith, c .shared-slice-known4 .given (c .before .before .before .before .loop .i))
+cast-add-point-2 c = omega (arith, c .shared-slice-known5 .given (c .before .before .before .before .loop .i))
 
 mul-add-point-3 : tie.Need-mul-add-point-3 Inv-loop μ-loop
 mul-add-point-3 c =
@@ -120,9 +120,12 @@ mul-add-point-3 c =
 shared-slice-copy-out-add-point : tie.Need-shared-slice-copy-out-add-point Inv-loop μ-loop
 shared-slice-copy-out-add-point c = omega (arith, start (c .before .before .before .before .before) .pre .0 .as-many-z)
 
+shared-slice-read-add-point-3 : tie.Need-shared-slice-read-add-point-3 Inv-loop μ-loop
+shared-slice-read-add-point-3 c = omega (arith, start (c .before .before .before .before .before .before .before) .pre .0 .as-many-q)
+
 add-point-requires : tie.Need-add-point-requires Inv-loop μ-loop
 add-point-requires c κs =
-    let l = c .before .before .before .before .before in
+    let l = c .before .before .before .before .before .before in
     fitting (start (l .before) .pre .0) (l .loop .i) _ (omega arith) (rw (l .loop .inv .1) (cleared-long (l .before)))
 
 add-i : tie.Need-add-i Inv-loop μ-loop
@@ -134,11 +137,11 @@ loop-less c = omega arith
 loop-again : tie.Need-loop-again Inv-loop μ-loop
 loop-again c =
     let d = c .before .before in
-    let l = d .before .before .before .before .before .before in
+    let l = d .before .before .before .before .before .before .before in
     let b = l .before in (
       omega arith,
       d .add-point .kept .0 ∙ l .loop .inv .1,
-      next (start b .pre .0) (l .loop .i) (cleared b) (cleared-long b) (l .loop .inv .2) (plain _ (d .before .add-point-arg2 .given)) (d .add-point .ensures),
+      next (start b .pre .0) (l .loop .i) (cleared b) (cleared-long b) (l .loop .inv .2) (plain _ (d .before .before .add-point-arg2 .given)) (d .add-point .ensures),
     )
 
 same-length : tie.Need-same-length Inv-loop μ-loop
@@ -173,6 +176,7 @@ gather-spec =
     cast-add-point-2
     mul-add-point-3
     shared-slice-copy-out-add-point
+    shared-slice-read-add-point-3
     add-point-requires
     add-i
     loop-less

@@ -18,13 +18,13 @@ use Rattle.levels.proofs.fit_level.Tie as tie
 
 module _ (c : tie.After-cells2) where
   abbrev start : tie.Start
-  start = c .before .before .before .before .before
+  start = c .before .before .before .before .before .before
 
   abbrev a : Shape
   a = shape (start .args .m0) (start .args .n0) (start .args .h)
 
   abbrev with : List ℤ → Survey
-  with zs = survey (start .args .xs .now) (start .args .ys .now) zs
+  with zs = survey (start .args .xs .now) (start .args .ys .now) zs (start .args .qs .now)
 
   ready : (zs : List ℤ) → Levelable a (with zs) (start .args .most) (length (start .args .whole .now)) (length (start .args .floats .now))
       → Before a (with zs) (start .args .most) (start .args .k) (start .args .whole .now)
@@ -36,8 +36,8 @@ module _ (c : tie.After-settle-level) where
   abbrev sized : tie.After-cells2
   sized = c .before .before .before
 
-  long : length (c .settle-level .last .1 .1 .1 .1 .1 .1 .1 .0) ≡ length (start sized .args .whole .now)
-  long = c .settle-level .kept .1 .1 .1 .1 .1 .1 .1 .0
+  long : length (c .settle-level .last .1 .1 .1 .1 .1 .1 .1 .1 .0) ≡ length (start sized .args .whole .now)
+  long = c .settle-level .kept .1 .1 .1 .1 .1 .1 .1 .1 .0
 
 -- ---- the needs
 

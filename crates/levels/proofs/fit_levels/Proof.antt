@@ -6,23 +6,23 @@ use borrow.Author.Needs.{needs}
 use Rattle.algebra.specs.Table.{free-again}
 use Rattle.rules.specs.Fit.{shape}
 use Rattle.answers.specs.Cause.{check}
-use Rattle.lowering.specs.Lowered.{surveyAt}
+use Rattle.scratch.specs.Scratch.{surveyAt}
 use Rattle.levels.proofs.Stepping.{Passing, beginning, levelable, whole-long, floats-long, passing, levels-refused, levels-done}
 use Rattle.levels.proofs.fit_levels.Statement.{statement}
 use Rattle.levels.proofs.fit_levels.Tie as tie
 
 abbrev Inv-loop : tie.InvT-loop
-Inv-loop m0 n0 h most xs ys whole₀ floats₀ k₀ whole floats k =
-    Passing (shape m0 n0 h) (surveyAt xs ys (3 * most) whole₀) most k whole₀ whole floats₀ floats
+Inv-loop m0 n0 h most xs ys qs whole₀ floats₀ k₀ whole floats k =
+    Passing (shape m0 n0 h) (surveyAt xs ys qs (3 * most) whole₀) most k whole₀ whole floats₀ floats
 
 abbrev μ-loop : tie.MeasureT-loop
-μ-loop m0 n0 h most xs ys whole₀ floats₀ k₀ whole floats k = h + 1 - k
+μ-loop m0 n0 h most xs ys qs whole₀ floats₀ k₀ whole floats k = h + 1 - k
 
 -- ---- a turn
 
 module _ (c : tie.At-loop Inv-loop μ-loop) where
   abbrev start : tie.Start Inv-loop μ-loop
-  start = c .before .before .before .before
+  start = c .before .before .before .before .before
 
 module _ (c : tie.After-fit-level Inv-loop μ-loop) where
   abbrev turn : tie.In-loop Inv-loop μ-loop
@@ -34,7 +34,7 @@ module _ (c : tie.After-fit-level Inv-loop μ-loop) where
 -- ---- the needs
 
 loop-holds : tie.Need-loop-holds Inv-loop μ-loop
-loop-holds c = beginning (c .before .before .before .pre)
+loop-holds c = beginning (c .before .before .before .before .pre)
 
 fit-level-requires : tie.Need-fit-level-requires Inv-loop μ-loop
 fit-level-requires c κs = let l = c .before .before .before in ((_, levelable (start l .pre) (l .loop .inv), l .loop .inv .before), c .before .before .loop-test .taken)
@@ -43,10 +43,10 @@ enum-known-r : tie.Need-enum-known-r Inv-loop μ-loop
 enum-known-r c = search needs
 
 same-length : tie.Need-same-length Inv-loop μ-loop
-same-length c = let f = c .before .before .before .before .before .before in f .fit-level .kept .1 .1 .1 .1 .1 .1 .1 .0 ∙ whole-long (start (head f) .pre) (head f .loop .inv)
+same-length c = let f = c .before .before .before .before .before .before in f .fit-level .kept .1 .1 .1 .1 .1 .1 .1 .1 .0 ∙ whole-long (start (head f) .pre) (head f .loop .inv)
 
 same-length-2 : tie.Need-same-length-2 Inv-loop μ-loop
-same-length-2 c = let f = c .before .before .before .before .before .before in f .fit-level .kept .1 .1 .1 .1 .1 .1 .1 .1 .0 ∙ floats-long (start (head f) .pre) (head f .loop .inv)
+same-length-2 c = let f = c .before .before .before .before .before .before in f .fit-level .kept .1 .1 .1 .1 .1 .1 .1 .1 .1 .0 ∙ floats-long (start (head f) .pre) (head f .loop .inv)
 
 returns : tie.Need-returns Inv-loop μ-loop
 returns c =

@@ -15,7 +15,7 @@ use Rattle.rules.specs.Surface.{height}
 use Rattle.rules.specs.Laws.Surface.{control-within, height-within}
 use Rattle.basis.specs.Weighing.{Readable}
 use Rattle.algebra.specs.Partly.{part-kept}
-use Rattle.lowering.specs.Lowered.{surveyAt, lessHeight, lessHeights}
+use Rattle.lowering.specs.Lowered.{lessHeight, lessHeights}
 use Rattle.fit_steps.specs.Entries.{entry-held}
 use Rattle.fit_steps.specs.Tested.{Tested, untested, passed, refused, accepted}
 use Rattle.lowering.proofs.lower.Statement.{statement}
@@ -23,7 +23,7 @@ use Rattle.lowering.proofs.lower.Tie as tie
 
 abbrev Inv-loop : tie.InvT-loop
 Inv-loop m n e xs ys whole₀ level residuals end i₀ whole i =
-    Tested residuals (length xs) i (lessHeight m n e (area level (controls m n) whole₀) (surveyAt xs ys residuals whole₀)) whole₀ whole
+    Tested residuals (length xs) i (lessHeight m n e (area level (controls m n) whole₀) xs ys (area residuals (length xs) whole₀)) whole₀ whole
 
 abbrev μ-loop : tie.MeasureT-loop
 μ-loop m n e xs ys whole₀ level residuals end i₀ whole i = length xs - i
@@ -63,8 +63,8 @@ module _ (c : tie.In-loop Inv-loop μ-loop) where
           long = rw (length-area (start .args .level) (controls (start .args .m) (start .args .n)) whole (omega arith)) (omega arith);
           ranged = p .level-ranged;
         };
-        x-inside = p .placed i (c .loop-test .taken) .x-inside;
-        y-inside = p .placed i (c .loop-test .taken) .y-inside;
+        x-inside = p .x-inside i (c .loop-test .taken);
+        y-inside = p .y-inside i (c .loop-test .taken);
       })
 
   -- the height of a lattice at the point
@@ -88,7 +88,7 @@ module _ (c : tie.After-height-within Inv-loop μ-loop) where
       let s = start turn in
       number
       (minus
-      (entry-held (turn .before .loop .inv .partly) (s .args .residuals) (length (s .args .xs .now)) (i turn) (turn .loop-test .taken) (omega arith) (inr (omega arith)) (λ i h. s .pre .placed i h .z-size))
+      (entry-held (turn .before .loop .inv .partly) (s .args .residuals) (length (s .args .xs .now)) (i turn) (turn .loop-test .taken) (omega arith) (inr (omega arith)) (s .pre .residuals-ranged))
       (read tt (record { is = c .height-within .ensures ∙ ap (there turn) (part-is turn); size = there-size turn })))
 
 -- ---- what it leaves and answers

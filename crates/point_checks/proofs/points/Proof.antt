@@ -1,210 +1,159 @@
--- `point_checks::points` meets its contract. The loop's invariant: no point before i is refused, and the sum is that of their heights.
-use mathlib.Core.Path.{_≡_, refl, sym, ap, subst, _∙_}
+-- `point_checks::points` meets its contract: where no confidence is 0, 17 refuses none; else the points up to the first that has one are asked for 5 and 6,
+-- and then that one is refused by 17.
+use borrow.Author.Needs.{needs}
+use Prim.Native.Nat.{ℕ, suc, _+_, _≤_, _<_}
+use mathlib.Core.Path.{_≡_, refl, sym, ap, ap₂, subst, _∙_}
 use mathlib.Core.Bool.{true, false}
 use mathlib.Core.Option.{none, some}
-use Prim.Native.Nat.{ℕ, _-_, _*_, _≤_, _<_}
+use mathlib.Core.List.{List}
+use native.Mathlib.Numerals.{add-one}
 use native.Mathlib.Omega.{arith}
-use borrow.Author.Tests.{le-leb, lt-leb, not-true, not-false}
-use borrow.Author.Count.{below-none, below-more}
 use lib.Dec.{T}
 use lib.IntN.{ℤ, pos}
-use lib.ListN.{length, getD}
-use mir.Syntax.{w64}
-use mir.Val.{toZ}
-use Rattle.machine.specs.Held.{Held, Number, number, itself, read, plus, fits}
-use Rattle.machine.specs.Tests.{plain}
-use Rattle.rules.specs.Grid.{limit, inRange, inside}
+use lib.ListN.{length, getD, take}
+use lib.Seq.{getD-take, length-take-le}
+use Rattle.rules.specs.Grid.{confident}
 use Rattle.rules.specs.Fit.{Survey, survey, pointCount, pointAt, total}
-use Rattle.rules.specs.Answers.{Refusal, Check, position, range, require, _then_, accepted, refused, answer}
-use Rattle.rules.specs.Calls.{pointCheck, pointsCheck}
-use Rattle.rules.specs.Laws.Base.{total-more, total-size}
-use Rattle.rules.specs.Laws.Checks.{required, then-rest, firstOf-all, firstOf-at, AllInRange, inRange-size}
+use Rattle.rules.specs.Answers.{Refusal, confidence, Check, require, _then_, firstOf, refused, answer}
+use Rattle.rules.specs.Calls.{spotCheck, pointCheck, pointsCheck}
+use Rattle.rules.specs.Laws.Checks.{then-none, then-some, then-pass, then-assoc, firstOf-same, firstOf-at, firstOf-refusal}
+use Rattle.point_checks.specs.Sure.{allSure, each-sure, byte-sure, FirstUnsure}
+use Rattle.point_checks.specs.Spots.{spotAt}
+use Rattle.point_checks.specs.Told as points-told
 use Rattle.point_checks.proofs.points.Statement.{statement}
 use Rattle.point_checks.proofs.points.Tie as tie
 
-abbrev Inv-loop : tie.InvT-loop
-Inv-loop m n xs ys zs right top sum₀ i₀ sum i =
-    (i ≤ length xs) × ((k : ℕ) → k < i → pointCheck 16 m n k (pointAt (survey xs ys zs) k) ≡ none) × (toZ w64 sum ≡ total i zs)
+module _ (m n : ℕ) (s : Survey) where
+  abbrev checked : ℕ → Check
+  checked i = pointCheck 16 m n i (pointAt s i)
 
-abbrev μ-loop : tie.MeasureT-loop
-μ-loop m n xs ys zs right top sum₀ i₀ sum i = length xs - i
+  abbrev spot : ℕ → Check
+  spot i = spotCheck 16 m n i (pointAt s i)
 
-module _ (m n : ℕ) (s : Survey) (i : ℕ) where
-  abbrev found : Check
-  found = pointCheck 16 m n i (pointAt s i)
+  sure-check : (i : ℕ) → confident (pointAt s i .q) ≡ true → checked i ≡ spot i
+  unfolding pointCheck require
+  sure-check i e = rw e (then-pass (spot i))
 
-  past-right : 16 * m < pointAt s i .x → found ≡ some (position i)
-  unfolding pointCheck require _then_ inside
-  past-right x = simp (lt-leb _ _ x)
+  all-sure-is : ((i : ℕ) → i < pointCount s → confident (pointAt s i .q) ≡ true) → pointsCheck 16 m n s ≡ firstOf (pointCount s) spot
+  unfolding pointsCheck
+  all-sure-is h = firstOf-same (pointCount s) _ _ (λ i l. sure-check i (h i l))
 
-  past-top : pointAt s i .x ≤ 16 * m → 16 * n < pointAt s i .y → found ≡ some (position i)
-  unfolding pointCheck require _then_ inside
-  past-top x y = simp (le-leb _ _ x, lt-leb _ _ y)
+  module _ (u : ℕ) (f : FirstUnsure u (s .qs)) (listed : u < pointCount s) where
+    to-unsure : firstOf (suc u) checked ≡ (firstOf (suc u) spot then some (confidence u))
+    unfolding firstOf pointCheck require
+    to-unsure =
+        let here : require (confident (pointAt s u .q)) (confidence u) ≡ some (confidence u) = rw (f .there) refl in
+        ap₂ _then_ (firstOf-same u _ _ (λ i l. sure-check i (f .before i l))) (ap (λ c. spot u then c) here) ∙ sym (then-assoc _ _ _)
 
-  out : pointAt s i .x ≤ 16 * m → pointAt s i .y ≤ 16 * n → inRange (pointAt s i .z) ≡ false → found ≡ some (range i)
-  unfolding pointCheck require _then_ inside
-  out x y z = simp (le-leb _ _ x, le-leb _ _ y, z)
+    -- what is refused among these is what is refused of all
+    unsure-is : (r : Refusal) (v : ℤ) → (firstOf (suc u) spot then some (confidence u)) ≡ some r → refused r ≡ answer (pointsCheck 16 m n s) v
+    unfolding pointsCheck answer
+    unsure-is r v e =
+        let q = firstOf-refusal (suc u) checked r (to-unsure ∙ e) in
+        rw (firstOf-at (pointCount s) (q .at) checked r (q .none-before) (omega (arith, q .below)) (q .refuses)) refl
 
-  fine : pointAt s i .x ≤ 16 * m → pointAt s i .y ≤ 16 * n → inRange (pointAt s i .z) ≡ true → found ≡ none
-  unfolding pointCheck require _then_ inside
-  fine x y z = simp (le-leb _ _ x, le-leb _ _ y, z)
+-- the first e of three lists are asked as they are in the whole lists
+taken : (m n e : ℕ) (xs ys : List ℕ) (zs : List ℤ) → firstOf e (spotAt m n (take e xs) (take e ys) (take e zs)) ≡ firstOf e (spotAt m n xs ys zs)
+unfolding spotCheck
+taken m n e xs ys zs = firstOf-same e _ _ (λ i l. rw (getD-take e xs i 0 l, getD-take e ys i 0 l, getD-take e zs i (pos 0) l) refl)
 
-  -- point i is the first that is refused
-  first : (r : Refusal) (v : ℤ) → ((k : ℕ) → k < i → pointCheck 16 m n k (pointAt s k) ≡ none) → i < pointCount s → found ≡ some r → refused r ≡ answer (pointsCheck 16 m n s) v
-  unfolding pointsCheck answer
-  first r v before l e = rw (firstOf-at (pointCount s) i _ r (firstOf-all i _ before) l e) refl
+-- ---- the needs
 
-  -- the heights before it are in range
-  ranged : ((k : ℕ) → k < i → pointCheck 16 m n k (pointAt s k) ≡ none) → AllInRange i (s .zs)
-  unfolding pointCheck
-  ranged before k l = inRange-size _ (required _ (range k) (then-rest _ _ (before k l)))
+returns : tie.Need-returns
+unfolding spotCheck
+returns c =
+    let sure = c .before .before in
+    let g = sure .before .before .before .before in
+    let a = g .args in
+    let s = survey (a .xs .now) (a .ys .now) (a .zs .now) (a .qs .now) in
+    let all : allSure (length (s .qs)) (s .qs) ≡ true = sym (sure .all-sure .ensures) ∙ c .before .if1 .taken in
+    let each : (i : ℕ) → i < pointCount s → confident (pointAt s i .q) ≡ true =
+    λ i l. byte-sure _ (each-sure (length (s .qs)) (s .qs) (subst T (sym all) tt) i (omega (arith, g .pre))) (omega (arith, sure .before .shared-slice-known3 .given i)) in
+    c .spots .ensures ∙ ap (λ k. answer k (total (pointCount s) (s .zs))) (sym (all-sure-is (a .m) (a .n) s each))
 
--- ---- the turn, and what it reads
+first-unsure-requires : tie.Need-first-unsure-requires
+first-unsure-requires c κs = sym (c .before .all-sure .ensures) ∙ c .if1 .left
 
-module _ (c : tie.After-z Inv-loop μ-loop) where
-  abbrev turn : tie.In-loop Inv-loop μ-loop
-  turn = c .before .before .before .before .before
-
-  abbrev given : tie.Start Inv-loop μ-loop
-  given = turn .before .before .before .before
+-- where the search is done: how many points are asked, of lists as long as each other
+module _ (c : tie.After-first-unsure) where
+  abbrev given : tie.Start
+  given = c .before .before .before .before .before .before
 
   abbrev points : Survey
-  points = survey (given .args .xs .now) (given .args .ys .now) (given .args .zs .now)
+  points = survey (given .args .xs .now) (given .args .ys .now) (given .args .zs .now) (given .args .qs .now)
 
-  abbrev height : ℤ
-  height = getD (given .args .zs .now) (turn .before .loop .i) (pos 0)
+  abbrev unsure : ℕ
+  unsure = c .first-unsure .result
 
-  so-far : Held (toZ w64 (turn .before .loop .sum)) (total (turn .before .loop .i) (given .args .zs .now)) (65_535 * limit)
-  so-far = record {
-    is = turn .before .loop .inv .2;
-    size = omega (arith, total-size (turn .before .loop .i) (given .args .zs .now) (ranged (given .args .m) (given .args .n) points (turn .before .loop .i) (turn .before .loop .inv .1)), turn .before .loop .inv .0, given .pre);
-  }
+  enough : (unsure + 1 ≤ length (points .xs)) × (unsure + 1 ≤ length (points .ys)) × (unsure + 1 ≤ length (points .zs))
+  enough = let l = c .first-unsure .ensures .listed in (omega (arith, l, given .pre), omega (arith, l, given .pre), omega (arith, l, given .pre))
 
--- `in_range` was handed the height's bits, read back
-height-tested : (c : tie.After-in-range Inv-loop μ-loop) → c .in-range .result ≡ inRange (height (c .before))
-height-tested c = c .in-range .ensures ∙ ap inRange (plain (height (c .before)) (c .before .z .given))
+  x-taken : length (take (unsure + 1) (points .xs)) ≡ unsure + 1
+  x-taken = length-take-le _ _ (enough .0)
 
-module _ (c : tie.Else3 Inv-loop μ-loop) where
-  abbrev at : tie.After-z Inv-loop μ-loop
-  at = c .before .before
+  y-taken : length (take (unsure + 1) (points .ys)) ≡ unsure + 1
+  y-taken = length-take-le _ _ (enough .1)
 
-  in-range : inRange (height at) ≡ true
-  in-range = sym (height-tested (c .before)) ∙ not-false _ (c .if3 .left)
+  z-taken : length (take (unsure + 1) (points .zs)) ≡ unsure + 1
+  z-taken = length-take-le _ _ (enough .2)
 
-  abbrev sum : Number
-  sum = number (plus (so-far at) (read tt (itself (height at) limit (inRange-size _ (subst T (sym in-range) tt)))))
+  listed : unsure < pointCount points
+  listed = omega (arith, enough .0)
 
-mul-right : tie.Need-mul-right Inv-loop μ-loop
-mul-right c = omega arith
+  -- what `spots` is asked of the first points
+  asked : firstOf (length (take (unsure + 1) (points .xs))) (spotAt (given .args .m) (given .args .n) (take (unsure + 1) (points .xs)) (take (unsure + 1) (points .ys)) (take (unsure + 1) (points .zs)))
+      ≡ firstOf (suc unsure) (spot (given .args .m) (given .args .n) points)
+  unfolding spotCheck
+  asked =
+      ap (λ k. firstOf k (spotAt (given .args .m) (given .args .n) (take (unsure + 1) (points .xs)) (take (unsure + 1) (points .ys)) (take (unsure + 1) (points .zs)))) x-taken
+      ∙ taken (given .args .m) (given .args .n) (unsure + 1) (points .xs) (points .ys) (points .zs)
+      ∙ ap (λ k. firstOf k (spot (given .args .m) (given .args .n) points)) (add-one unsure)
 
-mul-top : tie.Need-mul-top Inv-loop μ-loop
-mul-top c = omega arith
+slice-aggregate-spots : tie.Need-slice-aggregate-spots
+slice-aggregate-spots c = sym (x-taken (c .before))
 
-loop-holds : tie.Need-loop-holds Inv-loop μ-loop
-unfolding total
-loop-holds c = (omega arith, below-none _, refl)
+slice-aggregate-spots-2 : tie.Need-slice-aggregate-spots-2
+slice-aggregate-spots-2 c = sym (y-taken (c .before .before))
 
-mul-if1 : tie.Need-mul-if1 Inv-loop μ-loop
-mul-if1 c = omega arith
+slice-aggregate-spots-3 : tie.Need-slice-aggregate-spots-3
+slice-aggregate-spots-3 c = sym (z-taken (c .before .before .before))
 
-shared-slice-read-if1 : tie.Need-shared-slice-read-if1 Inv-loop μ-loop
-shared-slice-read-if1 c = omega arith
+spots-requires-2 : tie.Need-spots-requires-2
+spots-requires-2 c κs =
+    let u = c .before .before .before in
+    let g = given u in
+    (g .pre .0, g .pre .1, y-taken u ∙ sym (x-taken u), z-taken u ∙ sym (x-taken u), omega (arith, x-taken u, enough u .0, g .pre))
 
-cast-if1 : tie.Need-cast-if1 Inv-loop μ-loop
-cast-if1 c = omega (arith, c .shared-slice-known3 .given (c .before .before .loop .i))
-
-returns : tie.Need-returns Inv-loop μ-loop
-returns c =
-    let p = c .before .before .before in
-    let a = p .before .before .before .args in
-    let s = survey (a .xs .now) (a .ys .now) (a .zs .now) in
-    first (a .m) (a .n) s (p .loop .i) _ _ (p .loop .inv .1) (c .before .before .loop-test .taken) (past-right (a .m) (a .n) s (p .loop .i) (c .if1 .taken))
-
-mul-if2 : tie.Need-mul-if2 Inv-loop μ-loop
-mul-if2 c = omega arith
-
-shared-slice-read-if2 : tie.Need-shared-slice-read-if2 Inv-loop μ-loop
-shared-slice-read-if2 c = omega arith
-
-cast-if2 : tie.Need-cast-if2 Inv-loop μ-loop
-cast-if2 c = omega (arith, c .shared-slice-known4 .given (c .before .before .before .before .loop .i))
-
-returns-2 : tie.Need-returns-2 Inv-loop μ-loop
+returns-2 : tie.Need-returns-2
 returns-2 c =
-    let p = c .before .before .before .before .before in
-    let a = p .before .before .before .args in
-    let s = survey (a .xs .now) (a .ys .now) (a .zs .now) in
-    first (a .m) (a .n) s (p .loop .i) _ _ (p .loop .inv .1) (c .before .before .before .before .loop-test .taken)
-    (past-top (a .m) (a .n) s (p .loop .i) (c .before .before .if1 .left) (c .if2 .taken))
+    let p = c .before .before in
+    let u = p .before .before .before .before in
+    let g = given u .args in
+    let none-placed = points-told.summed _ _ (p .spots2 .ensures) (c .enum-told .given .1) .0 in
+    unsure-is (g .m) (g .n) (points u) (unsure u) (u .first-unsure .ensures) (listed u) _ _ (then-none _ _ (sym (asked u) ∙ none-placed))
 
-mul-z : tie.Need-mul-z Inv-loop μ-loop
-mul-z c = omega arith
-
-shared-slice-copy-out-z : tie.Need-shared-slice-copy-out-z Inv-loop μ-loop
-shared-slice-copy-out-z c = omega arith
-
-in-range-requires : tie.Need-in-range-requires Inv-loop μ-loop
-in-range-requires c κs = tt
-
-returns-3 : tie.Need-returns-3 Inv-loop μ-loop
+returns-3 : tie.Need-returns-3
 returns-3 c =
-    let z = c .before .before in
-    let q = z .before in
-    let p = turn z .before in
-    let a = given z .args in
-    first (a .m) (a .n) (points z) (p .loop .i) _ _ (p .loop .inv .1) (q .before .before .before .before .loop-test .taken)
-    (out (a .m) (a .n) (points z) (p .loop .i) (q .before .before .if1 .left) (q .if2 .left) (sym (height-tested (c .before)) ∙ not-true _ (c .if3 .taken)))
-
-add-sum : tie.Need-add-sum Inv-loop μ-loop
-add-sum c = fits tt (sum c .held)
-
-add-i : tie.Need-add-i Inv-loop μ-loop
-add-i c = omega arith
-
-loop-less : tie.Need-loop-less Inv-loop μ-loop
-loop-less c = omega arith
-
-loop-again : tie.Need-loop-again Inv-loop μ-loop
-loop-again c =
-    let z = at c in
-    let q = z .before in
-    let p = turn z .before in
-    let a = given z .args in (
-      omega arith,
-      below-more _ _ (p .loop .inv .1) (fine (a .m) (a .n) (points z) (p .loop .i) (q .before .before .if1 .left) (q .if2 .left) (in-range c)),
-      read tt (sum c .held) .is ∙ sym (total-more (p .loop .i) (a .zs .now)),
-    )
-
-returns-4 : tie.Need-returns-4 Inv-loop μ-loop
-unfolding pointsCheck answer
-returns-4 c =
-    let p = c .before in
-    let last : length (p .before .before .before .args .xs .now) ≡ p .loop .i = omega arith in
-    rw (last, firstOf-all _ _ (p .loop .inv .1)) (ap accepted (p .loop .inv .2))
+    let p = c .before .before .before in
+    let u = p .before .before .before .before in
+    let g = given u .args in
+    let first-placed = points-told.refused _ _ (p .spots2 .ensures) (c .before .r .given .1) in
+    unsure-is (g .m) (g .n) (points u) (unsure u) (u .first-unsure .ensures) (listed u) _ _ (then-some _ _ (sym (asked u) ∙ first-placed))
 
 pub points-spec : {M : Type 1} → statement M
 points-spec =
     tie.close
     (tie.spec
-    Inv-loop
-    μ-loop
-    mul-right
-    mul-top
-    loop-holds
-    mul-if1
-    shared-slice-read-if1
-    cast-if1
+    (λ c κs. search needs)
+    (λ c κs. search needs)
     returns
-    mul-if2
-    shared-slice-read-if2
-    cast-if2
+    first-unsure-requires
+    (λ c. search needs)
+    slice-aggregate-spots
+    slice-aggregate-spots-2
+    slice-aggregate-spots-3
+    spots-requires-2
+    (λ c. search needs)
+    (λ c. search needs)
     returns-2
-    mul-z
-    shared-slice-copy-out-z
-    in-range-requires
-    returns-3
-    add-sum
-    add-i
-    loop-less
-    loop-again
-    returns-4)
+    returns-3)

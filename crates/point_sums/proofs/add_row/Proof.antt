@@ -42,7 +42,7 @@ returns c =
     let c2 = c3 .before .before .before in
     let c1 = c2 .before .before .before in
     let a = start d1 .args in
-    put-back (λ k. rule.grown (weightAt (a .t4) k (a .l)) (a .z) (a .s)) (a .count) (a .q) (a .sums .now)
+    put-back (λ k. rule.grown (a .confidence) (weightAt (a .t5) k (a .l)) (a .z) (a .s)) (a .count) (a .q) (a .sums .now)
     _ _ _ _ _ _ (c1 .grown-pair .ensures) (c2 .grown-pair2 .ensures) (c3 .grown-pair3 .ensures) (c4 .grown-pair4 .ensures) (d1 .put-four .ensures) (d2 .put-four2 .ensures)
 
 pub add-row-spec : {M : Type 1} → statement M

@@ -26,7 +26,7 @@ module _ (c : tie.After-settle-all) where
   gathered = c .before .before .before .before .before
 
   abbrev start : tie.Start
-  start = gathered .before .before .before .before .before .before .before
+  start = gathered .before .before .before .before .before .before .before .before
 
   abbrev k : ℕ
   k = start .args .k
@@ -41,7 +41,7 @@ module _ (c : tie.After-settle-all) where
   whole = start .args .whole .now
 
   abbrev with : List ℤ → Survey
-  with zs = survey (start .args .xs .now) (start .args .ys .now) zs
+  with zs = survey (start .args .xs .now) (start .args .ys .now) zs (start .args .qs .now)
 
   abbrev At : Shape → List ℤ → Type 0
   At a zs = LevelReady a (with zs) most k (start .args .m) (start .args .n) (start .args .e) whole (length (start .args .floats .now))
@@ -55,7 +55,7 @@ module _ (c : tie.After-settle-all) where
   now-free : Free 0 all whole now
   now-free = level-free (start .pre .2) (start .args .floats .now) (gathered .gather .ensures) (c .settle-all .ensures)
 
-  floats-free : Free 0 (2 * most) (start .args .floats .now) (gathered .gather .last .1 .1 .1 .1 .1 .1 .0)
+  floats-free : Free 0 (2 * most) (start .args .floats .now) (gathered .gather .last .1 .1 .1 .1 .1 .1 .1 .0)
   floats-free = sums-free (start .pre .2) (start .args .floats .now) (gathered .gather .ensures) (start .pre .2 .floats-room)
 
 module _ (c : tie.Else1) where
@@ -124,7 +124,7 @@ part-gather-end c = search needs
 
 gather-requires : tie.Need-gather-requires
 unfolding controls
-gather-requires c κs = let p = c .before .before .before .before .before .before .pre in (fittable (p .2), omega (arith, p .2))
+gather-requires c κs = let p = c .before .before .before .before .before .before .before .pre in (fittable (p .2), omega (arith, p .2))
 
 mul-settle-all : tie.Need-mul-settle-all
 mul-settle-all c = search needs

@@ -48,20 +48,34 @@ returns-5 c =
       le-leb _ _ (c .before .before .before .if1 .left),
       eq-eqb _ _ (c .before .before .if2 .left),
       eq-eqb _ _ (c .before .if3 .left),
-      lt-leb _ _ (c .if4 .taken),
+      ne-eqb _ _ (c .if4 .taken),
     )
 
 returns-6 : tie.Need-returns-6
 unfolding surveyCheck _then_ hCheck listsCheck require
 returns-6 c =
     simp (
-      ← c .before .before .before .before .before .before .cells .ensures,
-      c .before .before .before .before .enum-told .given .1,
-      le-leb _ _ (c .before .before .before .if1 .left),
-      eq-eqb _ _ (c .before .before .if2 .left),
-      eq-eqb _ _ (c .before .if3 .left),
-      le-leb _ _ (c .if4 .left),
+      ← c .before .before .before .before .before .before .before .cells .ensures,
+      c .before .before .before .before .before .enum-told .given .1,
+      le-leb _ _ (c .before .before .before .before .if1 .left),
+      eq-eqb _ _ (c .before .before .before .if2 .left),
+      eq-eqb _ _ (c .before .before .if3 .left),
+      eq-eqb _ _ (c .before .if4 .left),
+      lt-leb _ _ (c .if5 .taken),
+    )
+
+returns-7 : tie.Need-returns-7
+unfolding surveyCheck _then_ hCheck listsCheck require
+returns-7 c =
+    simp (
+      ← c .before .before .before .before .before .before .before .cells .ensures,
+      c .before .before .before .before .before .enum-told .given .1,
+      le-leb _ _ (c .before .before .before .before .if1 .left),
+      eq-eqb _ _ (c .before .before .before .if2 .left),
+      eq-eqb _ _ (c .before .before .if3 .left),
+      eq-eqb _ _ (c .before .if4 .left),
+      le-leb _ _ (c .if5 .left),
     )
 
 pub head-spec : {M : Type 1} → statement M
-head-spec = tie.close (tie.spec cells-requires enum-known-r returns enum-told returns-2 returns-3 returns-4 returns-5 returns-6)
+head-spec = tie.close (tie.spec cells-requires enum-known-r returns enum-told returns-2 returns-3 returns-4 returns-5 returns-6 returns-7)
