@@ -6,7 +6,7 @@ use libc::STDOUT_FILENO;
 
 fn main() {
     // one byte more than is taken, to see that there are more
-    let mut input = [0u8; 7009];
+    let mut input = [0u8; 7509];
     let n = io::read_full(STDIN_FILENO, &mut input);
     let answer = respond::respond(&input[..n]);
     let bytes = answer.bytes;

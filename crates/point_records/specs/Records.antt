@@ -1,6 +1,6 @@
--- A file's fields of one byte by its entries, and what a head that is not refused has shown.
-use Prim.Native.Nat.{ℕ, _+_, _≤_}
-use mathlib.Core.Path.{_≡_, refl, ap}
+-- A file's fields of one byte by its entries, what a head that is not refused has shown, and where the records of a file end.
+use Prim.Native.Nat.{ℕ, _+_, _≤_, _<_}
+use mathlib.Core.Path.{_≡_, refl, ap, _∙_}
 use mathlib.Core.Option.{none}
 use mathlib.Core.List.{List}
 use native.Mathlib.Omega.{arith}
@@ -8,9 +8,12 @@ use lib.Dec.{leb→le}
 use lib.ListN.{length, getD}
 use Rattle.rules.specs.Answers.{_then_}
 use Rattle.rules.specs.Bytes.{numberAt}
-use Rattle.rules.specs.PointFile.{PH, fileShape, pointHeadCheck}
+use Rattle.rules.specs.PointFile.{PH, sizeOf, pointStart, fileShape, fileStart, pointHeadCheck}
 use Rattle.rules.specs.Laws.Bytes.{entries, numberAt-entries, record-fits}
 use Rattle.rules.specs.Laws.Checks.{required, within-bounds, then-first, then-rest}
+use Rattle.rules.specs.Laws.PointFields.{length-last, start-less}
+use Rattle.point_records.specs.declared.Kind.{Kind}
+use Rattle.point_records.specs.Read.{ruled, Held}
 
 pub numberAt-one : (file : List ℕ) (b : ℕ) → numberAt 1 file b ≡ getD file b 0
 unfolding entries
@@ -37,3 +40,18 @@ head-passed file e =
       n0 = omega (arith, n .1, numberAt-one file 3);
       h = omega (arith, k, numberAt-one file 4);
     }
+
+-- ---- the records that a file holds
+
+-- where one starts, by the file's own kind
+pub start-held : {file : List ℕ} {kind : Kind} {p s : ℕ} (i : ℕ) → Held file kind p → s ≡ pointStart (ruled kind) i → s ≡ fileStart file i
+start-held i held e = e ∙ ap (λ k. pointStart k i) (held .alike)
+
+-- and that it ends within the file
+module _ {file : List ℕ} {kind : Kind} {p : ℕ} (held : Held file kind p) (i : ℕ) (l : i < p) where
+  pub record-held : pointStart (ruled kind) i + sizeOf (ruled kind) ≤ length file
+  record-held = omega (arith, start-less (ruled kind) i p l, ap (λ k. pointStart k p) (held .alike), held .complete)
+
+  -- x, y and z at least
+  pub fields-held : pointStart (ruled kind) i + 14 ≤ length file
+  fields-held = omega (arith, record-held, length-last (ruled kind) 0)

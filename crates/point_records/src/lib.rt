@@ -1,14 +1,17 @@
 // The records of a point file, judged, and what its head says.
 ghost use mathlib.Core.Path.{_≡_};
-ghost use Prim.Native.Nat.{_<_};
+ghost use Prim.Native.Nat.{_+_, _^_, _≤_, _<_};
+ghost use lib.ListN.{length};
 ghost use Rattle.rules.specs.Answers.{answer, firstOf};
+ghost use Rattle.rules.specs.Bytes.{recordCheck};
 ghost use Rattle.rules.specs.PointFile as rule;
 ghost use Rattle.answers.specs.Cause.{check};
-ghost use Rattle.point_records.specs.Read.{told, header, lastX, lastY};
+ghost use Rattle.point_records.specs.Read.{told, header, ruled, Measured};
 use answers::Refusal;
 use answers::Verdict;
 use records::H;
 use records::P;
+use records::Q;
 use records::T;
 
 // What a point file's head says: m0, n0, h and the number of points.
@@ -22,6 +25,55 @@ pub struct Header {
 pub enum PointsRead {
     Header(Header),
     Refused(Refusal),
+}
+
+// The mark of a file's point records, all alike: "PT", or "PQ".
+pub enum Kind {
+    Pt,
+    Pq,
+}
+
+// The first record sets the kind.
+pub fn kind_of(file: &[u8]) -> Kind
+    ensures { λ r. ⌜ ruled r ≡ rule.kindOf (now (file .entry)) ⌝ }
+{
+    if records::marked(file, 8, P, Q) {
+        return Kind::Pq;
+    }
+    Kind::Pt
+}
+
+// Where record i starts.
+pub fn start(kind: Kind, i: usize) -> usize
+    requires { ⌜ rule.pointStart (ruled kind) i < 2 ^ 64 ⌝ }
+    ensures { λ r. ⌜ r ≡ rule.pointStart (ruled kind) i ⌝ }
+{
+    match kind {
+        Kind::Pt => 8 + 14 * i,
+        Kind::Pq => 8 + 15 * i,
+    }
+}
+
+// The confidence in the record that starts at s: its last byte, and 1 in a PT record.
+pub fn confidence(file: &[u8], kind: Kind, s: usize) -> u8
+    requires { ⌜ s + rule.sizeOf (ruled kind) ≤ length (now file) ⌝ }
+    ensures { λ r. ⌜ r ≡ rule.lastNumber (ruled kind) (now (file .entry)) (s + 14) ⌝ }
+{
+    match kind {
+        Kind::Pt => 1,
+        Kind::Pq => file[s + 14],
+    }
+}
+
+// A record of this kind that starts at s: incomplete, then a wrong mark.
+fn record(file: &[u8], kind: Kind, s: usize) -> Verdict
+    requires { ⌜ s < 2 ^ 32 ⌝ }
+    ensures { λ r. ⌜ check r ≡ recordCheck (rule.markOf (ruled kind)) (now (file .entry)) s (rule.sizeOf (ruled kind)) ⌝ }
+{
+    match kind {
+        Kind::Pt => records::record(file, s, 14, P, T),
+        Kind::Pq => records::record(file, s, 15, P, Q),
+    }
 }
 
 // "PH" with m0, n0, h and a zero byte
@@ -46,13 +98,13 @@ fn head(file: &[u8]) -> Verdict
     Verdict::Fine
 }
 
-// "PT" with x, y and z; right and top are the last positions of the grid
-fn point(file: &[u8], right: usize, top: usize, i: usize) -> Verdict
-    requires { ⌜ (right ≡ lastX (rule.fileShape (now file))) × (top ≡ lastY (rule.fileShape (now file))) × (i < 65_536) ⌝ }
+// A point's record with x, y, z and q; right and top are the last positions of the grid
+fn point(file: &[u8], kind: Kind, right: usize, top: usize, i: usize) -> Verdict
+    requires { ⌜ Measured (now file) kind right top × (i < 65_536) ⌝ }
     ensures { λ r. ⌜ check r ≡ rule.pointRecordCheck (rule.fileShape (now (file .entry))) (now (file .entry)) i ⌝ }
 {
-    let s = 8 + 14 * i;
-    if let Verdict::Refused(r) = records::record(file, s, 14, P, T) {
+    let s = start(kind, i);
+    if let Verdict::Refused(r) = record(file, kind, s) {
         return Verdict::Refused(r);
     }
     if right < codec::u16_at(file, s + 2) as usize {
@@ -64,17 +116,20 @@ fn point(file: &[u8], right: usize, top: usize, i: usize) -> Verdict
     if !range::in_range(codec::value_at(file, s + 6)) {
         return Verdict::Refused(Refusal::Field(s + 6));
     }
+    if confidence(file, kind, s) == 0 {
+        return Verdict::Refused(Refusal::Field(s + 14));
+    }
     Verdict::Fine
 }
 
 // All p point records.
-fn points(file: &[u8], right: usize, top: usize, p: usize) -> Verdict
-    requires { ⌜ (right ≡ lastX (rule.fileShape (now file))) × (top ≡ lastY (rule.fileShape (now file))) × (p < 65_536) ⌝ }
+fn points(file: &[u8], kind: Kind, right: usize, top: usize, p: usize) -> Verdict
+    requires { ⌜ Measured (now file) kind right top × (p < 65_536) ⌝ }
     ensures { λ r. ⌜ check r ≡ firstOf p (rule.pointRecordCheck (rule.fileShape (now (file .entry))) (now (file .entry))) ⌝ }
 {
     let mut i = 0;
     while i < p {
-        if let Verdict::Refused(r) = point(file, right, top, i) {
+        if let Verdict::Refused(r) = point(file, kind, right, top, i) {
             return Verdict::Refused(r);
         }
         i += 1;
@@ -93,11 +148,13 @@ pub fn judge(file: &[u8]) -> PointsRead
     let n0 = file[3] as usize;
     let h = file[4] as usize;
     let p = codec::u16_at(file, 6) as usize;
-    if let Verdict::Refused(r) = points(file, 16 * (m0 << h), 16 * (n0 << h), p) {
+    let kind = kind_of(file);
+    if let Verdict::Refused(r) = points(file, kind, 16 * (m0 << h), 16 * (n0 << h), p) {
         return PointsRead::Refused(r);
     }
-    if file.len() != 8 + 14 * p {
-        return PointsRead::Refused(Refusal::Trailing(8 + 14 * p));
+    let end = start(kind, p);
+    if file.len() != end {
+        return PointsRead::Refused(Refusal::Trailing(end));
     }
     PointsRead::Header(Header {
         m0,

@@ -1,4 +1,4 @@
--- A survey that the program takes passes the fit's checks 1 to 6, and the lattice file of what the fit leaves is the answer.
+-- A survey that the program takes passes the fit's checks 1 to 6 and 17, and the lattice file of what the fit leaves is the answer.
 use mathlib.Core.Path.{_≡_, refl, sym, ap, ap₂, _∙_}
 use mathlib.Core.Option.{none}
 use mathlib.Core.List.{List, _++_}
@@ -48,7 +48,7 @@ file-reads m n l r s =
 
 -- ---- the fit
 
-module _ {a : Shape} {s : Survey} (t : Taken a s) (w : Lent) (lattice : 361 ≡ length (w .lattice)) (residual : 500 ≡ length (w .residual)) (whole : 1_583 ≡ length (w .whole)) (floats : 722 ≡ length (w .floats)) where
+module _ {a : Shape} {s : Survey} (t : Taken a s) (w : Lent) (lattice : 361 ≡ length (w .lattice)) (residual : 535 ≡ length (w .residual)) (whole : 1_618 ≡ length (w .whole)) (floats : 722 ≡ length (w .floats)) where
   K-most : K a ≤ 361
   unfolding K
   K-most = controls-most (t .across) (t .up)

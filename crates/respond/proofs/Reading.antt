@@ -13,7 +13,8 @@ use mir.Facts.{and-yes}
 use Rattle.algebra.specs.Table.{tabulate, over, length-tabulate}
 use Rattle.rules.specs.Fit.{Shape, columns, rows, Survey, survey, pointCount, differenceCheck, inLevelsCheck}
 use Rattle.rules.specs.Answers.{Refusal, Check, require, _then_, short, Answer, accepted, refused, outcome}
-use Rattle.rules.specs.PointFile.{Header, pointStart, fileShape, filePoints, fileX, fileY, fileZ, fileSurvey, pointFileCheck, readPointsCheck, overLists, readPointsCall}
+use Rattle.rules.specs.PointFile.{Kind, pt, pq, Header, pointStart, fileShape, filePoints, kindOf, fileStart, fileX, fileY, fileZ, fileQ, fileSurvey}
+use Rattle.rules.specs.PointFile.{pointFileCheck, readPointsCheck, overLists, readPointsCall}
 use Rattle.rules.specs.Program.{refusedLine, programCheck, written, programOutput}
 use Rattle.rules.specs.Laws.Bytes.{AreBytes}
 use Rattle.rules.specs.Laws.Checks.{required, require-met, then-rest, then-none, call-unrefused, call-value, call-after, call-refusal}
@@ -24,37 +25,43 @@ use Rattle.respond.specs.Taken.{Taken, answerText}
 abbrev pub few : Shape → Bool
 few a = leb (columns a (a .h)) 16 && leb (rows a (a .h)) 16
 
--- the first p points of three slices
+-- the first p points of the slices
 abbrev pub firstPoints : ℕ → Survey → Survey
-firstPoints p s = survey (take p (s .xs)) (take p (s .ys)) (take p (s .zs))
+firstPoints p s = survey (take p (s .xs)) (take p (s .ys)) (take p (s .zs)) (take p (s .qs))
 
--- a file of at most 7,008 bytes that was accepted with the header a, and its points at the start of three slices
+-- in either kind of file
+points-room : (k : Kind) (p : ℕ) → pointStart k p ≤ 7_508 → p ≤ 535
+unfolding pointStart
+points-room pt p h = omega arith
+points-room pq p h = omega arith
+
+-- a file of at most 7,508 bytes that was accepted with the header a, and its points at the start of the slices
 pub record ReadAs (file : List ℕ) (a : Header) (got : Survey) : Type 0 where
   bytes : AreBytes file
-  short : length file ≤ 7_008
+  short : length file ≤ 7_508
   passed : pointFileCheck file ≡ none
   shape-is : fileShape file ≡ a .shape
   count-is : filePoints file ≡ a .points
   points-are : firstPoints (a .points) got ≡ fileSurvey file
 
 module _ (file : List ℕ) where
-  pub too-long : 7_008 < length file → refusedLine short ≡ programOutput file
+  pub too-long : 7_508 < length file → refusedLine short ≡ programOutput file
   unfolding programOutput programCheck written require _then_
-  too-long h = rw (lt-leb (length file) 7_008 h) refl
+  too-long h = rw (lt-leb (length file) 7_508 h) refl
 
-  module _ (h : length file ≤ 7_008) where
+  module _ (h : length file ≤ 7_508) where
     check-is : programCheck file ≡ (pointFileCheck file then require (few (fileShape file)) short then differenceCheck (fileSurvey file .zs) then inLevelsCheck (fileShape file) (fileSurvey file))
     unfolding programCheck
-    check-is = then-none _ _ (require-met _ _ (le→leb (length file) 7_008 h))
+    check-is = then-none _ _ (require-met _ _ (le→leb (length file) 7_508 h))
 
-    points-most : pointFileCheck file ≡ none → filePoints file ≤ 500
-    unfolding pointFileCheck pointStart
+    points-most : pointFileCheck file ≡ none → filePoints file ≤ 535
+    unfolding pointFileCheck
     points-most e =
-        let ends : length file ≡ pointStart (filePoints file) = eqb→eq _ _ (required _ _ (then-rest _ _ (then-rest _ _ e))) in
-        omega arith
+        let ends : length file ≡ fileStart file (filePoints file) = eqb→eq _ _ (required _ _ (then-rest _ _ (then-rest _ _ e))) in
+        points-room (kindOf file) (filePoints file) (omega arith)
 
-    -- the reader with room for 500 points
-    module _ (lent : Survey) (long-x : 500 ≡ length (lent .xs)) (long-y : 500 ≡ length (lent .ys)) (long-z : 500 ≡ length (lent .zs)) where
+    -- the reader with room for 535 points
+    module _ (lent : Survey) (long-x : 535 ≡ length (lent .xs)) (long-y : 535 ≡ length (lent .ys)) (long-z : 535 ≡ length (lent .zs)) (long-q : 535 ≡ length (lent .qs)) where
       read-is : readPointsCheck file lent ≡ pointFileCheck file
       unfolding readPointsCheck require _then_
       read-is = go (pointFileCheck file) refl
@@ -63,10 +70,12 @@ module _ (file : List ℕ) where
           p = filePoints file
 
           go : (c : Check) → pointFileCheck file ≡ c
-              → (c then require (leb p (length (lent .xs)) && leb p (length (lent .ys)) && leb p (length (lent .zs))) short) ≡ c
+              → (c then require (leb p (length (lent .xs)) && leb p (length (lent .ys)) && leb p (length (lent .zs)) && leb p (length (lent .qs))) short) ≡ c
           go none e =
               let most = points-most e in
-              rw (le-leb p (length (lent .xs)) (omega arith), le-leb p (length (lent .ys)) (omega arith), le-leb p (length (lent .zs)) (omega arith)) refl
+              rw
+              (le-leb p (length (lent .xs)) (omega arith), le-leb p (length (lent .ys)) (omega arith), le-leb p (length (lent .zs)) (omega arith), le-leb p (length (lent .qs)) (omega arith))
+              refl
           go (some r) e = refl
 
       module _ {told : Answer Header} {got : Survey} (read : outcome told got ≡ readPointsCall file lent) where
@@ -96,7 +105,7 @@ module _ (file : List ℕ) where
           unfolding readPointsCall overLists fileSurvey
           points-are =
               ap (firstPoints (a .points)) (call-after (readPointsCheck file lent) _ _ lent told got read a e)
-              ∙ (λ i. survey (first (fileX file) (lent .xs) i) (first (fileY file) (lent .ys) i) (first (fileZ file) (lent .zs) i))
+              ∙ (λ i. survey (first (fileX file) (lent .xs) i) (first (fileY file) (lent .ys) i) (first (fileZ file) (lent .zs) i) (first (fileQ file) (lent .qs) i))
 
           pub read-as : AreBytes file → ReadAs file a got
           read-as bytes = record {
@@ -112,7 +121,7 @@ module _ {file : List ℕ} {a : Header} {got : Survey} (r : ReadAs file a got) w
   bounds : Writable (fileShape file) (fileSurvey file)
   bounds = read-writable file (r .passed) (r .bytes)
 
-  pub points-fit : a .points ≤ 500
+  pub points-fit : a .points ≤ 535
   points-fit = omega (arith, r .count-is, points-most file (r .short) (r .passed))
 
   -- what `few_cells` asks

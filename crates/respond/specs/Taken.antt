@@ -10,7 +10,7 @@ pub record Taken (a : Shape) (s : Survey) : Type 0 where
   pub writable : Writable a s
   pub across : columns a (a .h) ≤ 16
   pub up : rows a (a .h) ≤ 16
-  pub few : pointCount s ≤ 500
+  pub few : pointCount s ≤ 535
 
 -- the lattice file of its fit, or the line of the refusal by 15 or in a level
 unfoldable pub answerText : Shape → Survey → List ℕ

@@ -18,14 +18,15 @@ fn fit_and_write(
     xs: &[u16],
     ys: &[u16],
     zs: &[i64],
+    qs: &[u8],
     output: &mut [u8],
 ) -> usize
-    requires { ⌜ Taken (shape m0 n0 h) (survey (now xs) (now ys) (now zs)) × (2_974 ≤ length (now output)) ⌝ }
-    ensures { λ r. ⌜ Wrote (answerText (shape m0 n0 h) (survey (now (xs .entry)) (now (ys .entry)) (now (zs .entry)))) (now (output .entry)) r (now (output .exit)) ⌝ }
+    requires { ⌜ Taken (shape m0 n0 h) (survey (now xs) (now ys) (now zs) (now qs)) × (2_974 ≤ length (now output)) ⌝ }
+    ensures { λ r. ⌜ Wrote (answerText (shape m0 n0 h) (survey (now (xs .entry)) (now (ys .entry)) (now (zs .entry)) (now (qs .entry)))) (now (output .entry)) r (now (output .exit)) ⌝ }
 {
     let mut lattice = [0i64; 361];
-    let mut residual = [0i64; 500];
-    let mut whole = [0i64; 1583];
+    let mut residual = [0i64; 535];
+    let mut whole = [0i64; 1618];
     let mut floats = [0.0f64; 722];
     match fit::fit(
         m0,
@@ -34,6 +35,7 @@ fn fit_and_write(
         xs,
         ys,
         zs,
+        qs,
         &mut lattice,
         &mut residual,
         &mut whole,
@@ -52,10 +54,11 @@ fn write(input: &[u8], output: &mut [u8]) -> usize
     if !limits::few_bytes(input.len()) {
         return refused_line::put_refused(Refusal::Short, output);
     }
-    let mut xs = [0u16; 500];
-    let mut ys = [0u16; 500];
-    let mut zs = [0i64; 500];
-    match point_reader::read_points(input, &mut xs, &mut ys, &mut zs) {
+    let mut xs = [0u16; 535];
+    let mut ys = [0u16; 535];
+    let mut zs = [0i64; 535];
+    let mut qs = [0u8; 535];
+    match point_reader::read_points(input, &mut xs, &mut ys, &mut zs, &mut qs) {
         PointsRead::Refused(r) => refused_line::put_refused(r, output),
         PointsRead::Header(a) => {
             let m0 = a.m0;
@@ -65,7 +68,7 @@ fn write(input: &[u8], output: &mut [u8]) -> usize
             if !limits::few_cells(m0, n0, h) {
                 return refused_line::put_refused(Refusal::Short, output);
             }
-            fit_and_write(m0, n0, h, &xs[..p], &ys[..p], &zs[..p], output)
+            fit_and_write(m0, n0, h, &xs[..p], &ys[..p], &zs[..p], &qs[..p], output)
         }
     }
 }

@@ -2,7 +2,7 @@
 use mathlib.Core.Path.{_≡_, sym, ap, _∙_}
 use mathlib.Core.Option.{none, some}
 use mathlib.Core.List.{List}
-use Prim.Native.Nat.{ℕ, _+_, _*_, _%_, _^_, _≤_}
+use Prim.Native.Nat.{ℕ, _*_, _%_, _^_, _≤_}
 use native.Mathlib.Omega.{arith}
 use borrow.Author.Needs.{needs}
 use borrow.Author.Tests.{eq-eqb, ne-eqb}
@@ -13,10 +13,11 @@ use mir.Val.{Fits}
 use Rattle.rules.specs.Grid.{cellsAt}
 use Rattle.rules.specs.Fit.{shape, columns, rows}
 use Rattle.rules.specs.Answers.{Refusal, require, _then_, firstOf, trailing, accepted, refused, answer}
-use Rattle.rules.specs.PointFile.{pointStart, fileShape, filePoints, pointHeadCheck, pointRecordCheck, pointFileCheck}
+use Rattle.rules.specs.PointFile.{kindOf, pointStart, fileShape, filePoints, pointHeadCheck, pointRecordCheck, pointFileCheck}
 use Rattle.rules.specs.Bytes.{numberAt}
 use Rattle.rules.specs.Laws.Passed.{cellsAt-most, cellsAt-shifted}
-use Rattle.point_records.specs.Read.{header}
+use Rattle.rules.specs.Laws.PointFields.{start-most}
+use Rattle.point_records.specs.Read.{header, ruled}
 use Rattle.point_records.specs.Records.{HeadBounds, numberAt-one, head-passed}
 use Rattle.point_records.proofs.judge.Statement.{statement}
 use Rattle.point_records.proofs.judge.Tie as tie
@@ -32,15 +33,15 @@ module _ (file : List ℕ) where
     unfolding pointFileCheck filePoints _then_ answer
     at-point r e = rw (head, ← is, e)
 
-    module _ (points : firstOf p (pointRecordCheck (fileShape file) file) ≡ none) where
-      at-end : (length file ≡ 8 + 14 * p → ⊥) → refused (trailing (8 + 14 * p)) ≡ answer (pointFileCheck file) (header file)
-      unfolding pointFileCheck filePoints pointStart require _then_ answer
-      at-end e = rw (head, ← is, points, ne-eqb _ _ e)
+    module _ (points : firstOf p (pointRecordCheck (fileShape file) file) ≡ none) {end : ℕ} (ends : end ≡ pointStart (kindOf file) p) where
+      at-end : (length file ≡ end → ⊥) → refused (trailing end) ≡ answer (pointFileCheck file) (header file)
+      unfolding pointFileCheck filePoints require _then_ answer
+      at-end e = rw (head, ← is, points, ← ends, ne-eqb _ _ e)
 
-      whole : length file ≡ 8 + 14 * p
+      whole : length file ≡ end
           → accepted (record { shape = shape (getD file 2 0) (getD file 3 0) (getD file 4 0); points = p }) ≡ answer (pointFileCheck file) (header file)
-      unfolding pointFileCheck fileShape filePoints pointStart require _then_ answer
-      whole e = rw (head, ← is, points, eq-eqb _ _ e, numberAt-one file 2, numberAt-one file 3, numberAt-one file 4)
+      unfolding pointFileCheck fileShape filePoints require _then_ answer
+      whole e = rw (head, ← is, points, ← ends, eq-eqb _ _ e, numberAt-one file 2, numberAt-one file 3, numberAt-one file 4)
 
 head-none : (c : tie.After-enum-told) → pointHeadCheck (c .before .before .before .before .args .file .now) ≡ none
 head-none c = sym (c .before .before .head .ensures) ∙ ap check (c .enum-told .given .1)
@@ -92,23 +93,30 @@ u16-at-requires c κs = bounded (c .before .before .before) .complete
 cast-p : tie.Need-cast-p
 cast-p c = search needs
 
+kind-of-requires : tie.Need-kind-of-requires
+kind-of-requires c κs = search needs
+
+-- the place where the head has been read
+abbrev head-read : tie.After-kind-of → tie.After-enum-told
+head-read c = c .before .before .before .before .before
+
 shl-points : tie.Need-shl-points
-shl-points c = omega (arith, bounded (c .before .before .before .before) .h)
+shl-points c = omega (arith, bounded (head-read c) .h)
 
 mul-points : tie.Need-mul-points
-mul-points c = let b = bounded (c .before .before .before .before) in last-fits _ _ (b .m0) (b .h)
+mul-points c = let b = bounded (head-read c) in last-fits _ _ (b .m0) (b .h)
 
 shl-points-2 : tie.Need-shl-points-2
-shl-points-2 c = omega (arith, bounded (c .before .before .before .before) .h)
+shl-points-2 c = omega (arith, bounded (head-read c) .h)
 
 mul-points-2 : tie.Need-mul-points-2
-mul-points-2 c = let b = bounded (c .before .before .before .before) in last-fits _ _ (b .n0) (b .h)
+mul-points-2 c = let b = bounded (head-read c) in last-fits _ _ (b .n0) (b .h)
 
 points-requires : tie.Need-points-requires
 unfolding fileShape columns rows
 points-requires c κs =
-    let b = bounded (c .before .before .before .before) in
-    (last _ 2 4 (b .m0) (b .h), last _ 3 4 (b .n0) (b .h), omega arith)
+    let b = bounded (head-read c) in
+    (record { alike = c .kind-of .ensures; right-is = last _ 2 4 (b .m0) (b .h); top-is = last _ 3 4 (b .n0) (b .h) }, omega arith)
 
 enum-known-r-2 : tie.Need-enum-known-r-2
 enum-known-r-2 c = search needs
@@ -116,34 +124,31 @@ enum-known-r-2 c = search needs
 returns-2 : tie.Need-returns-2
 returns-2 c =
     let q = c .before .before .before .before in
-    at-point _ _ (q .u16-at .ensures) (head-none (q .before .before .before .before)) _ (sym (c .before .before .before .points .ensures) ∙ ap check (c .before .r2 .given .1))
+    at-point _ _ (q .before .u16-at .ensures) (head-none (head-read q)) _ (sym (c .before .before .before .points .ensures) ∙ ap check (c .before .r2 .given .1))
 
 enum-told-2 : tie.Need-enum-told-2
 enum-told-2 c = search needs
 
-mul-if1 : tie.Need-mul-if1
-mul-if1 c = search needs
-
-add-if1 : tie.Need-add-if1
-add-if1 c = search needs
-
-mul-t20 : tie.Need-mul-t20
-mul-t20 c = search needs
-
-add-t21 : tie.Need-add-t21
-add-t21 c = search needs
+start-requires : tie.Need-start-requires
+start-requires c κs =
+    let q = c .before .before .before in
+    omega (arith, start-most (ruled (q .kind-of .result)) (q .before .u16-at .result) (omega arith))
 
 returns-3 : tie.Need-returns-3
 returns-3 c =
-    let p = c .before .before .before in
+    let told = c .before .before in
+    let p = told .before .before in
     let q = p .before in
-    at-end _ _ (q .u16-at .ensures) (head-none (q .before .before .before .before)) (sym (p .points .ensures) ∙ ap check (c .before .enum-told2 .given .1)) (c .if1 .taken)
+    at-end _ _ (q .before .u16-at .ensures) (head-none (head-read q)) (sym (p .points .ensures) ∙ ap check (told .enum-told2 .given .1))
+    (c .before .start .ensures ∙ ap (λ k. pointStart k (q .before .u16-at .result)) (q .kind-of .ensures)) (c .if1 .taken)
 
 returns-4 : tie.Need-returns-4
 returns-4 c =
-    let p = c .before .before .before in
+    let told = c .before .before in
+    let p = told .before .before in
     let q = p .before in
-    whole _ _ (q .u16-at .ensures) (head-none (q .before .before .before .before)) (sym (p .points .ensures) ∙ ap check (c .before .enum-told2 .given .1)) (c .if1 .left)
+    whole _ _ (q .before .u16-at .ensures) (head-none (head-read q)) (sym (p .points .ensures) ∙ ap check (told .enum-told2 .given .1))
+    (c .before .start .ensures ∙ ap (λ k. pointStart k (q .before .u16-at .result)) (q .kind-of .ensures)) (c .if1 .left)
 
 pub judge-spec : {M : Type 1} → statement M
 judge-spec =
@@ -161,6 +166,7 @@ judge-spec =
     cast-h
     u16-at-requires
     cast-p
+    kind-of-requires
     shl-points
     mul-points
     shl-points-2
@@ -169,9 +175,6 @@ judge-spec =
     enum-known-r-2
     returns-2
     enum-told-2
-    mul-if1
-    add-if1
-    mul-t20
-    add-t21
+    start-requires
     returns-3
     returns-4)

@@ -12,16 +12,16 @@ use Rattle.point_records.proofs.points.Statement.{statement}
 use Rattle.point_records.proofs.points.Tie as tie
 
 abbrev Inv-loop : tie.InvT-loop
-Inv-loop file right top p i₀ i = (i ≤ p) × ((k : ℕ) → k < i → pointRecordCheck (fileShape file) file k ≡ none)
+Inv-loop file kind right top p i₀ i = (i ≤ p) × ((k : ℕ) → k < i → pointRecordCheck (fileShape file) file k ≡ none)
 
 abbrev μ-loop : tie.MeasureT-loop
-μ-loop file right top p i₀ i = p - i
+μ-loop file kind right top p i₀ i = p - i
 
 loop-holds : tie.Need-loop-holds Inv-loop μ-loop
 loop-holds c = (omega arith, below-none _)
 
 point-requires : tie.Need-point-requires Inv-loop μ-loop
-point-requires c κs = let pre = c .before .before .before .pre in (pre .0, pre .1, omega arith)
+point-requires c κs = let pre = c .before .before .before .pre in (pre .0, omega arith)
 
 enum-known-r : tie.Need-enum-known-r Inv-loop μ-loop
 enum-known-r c = search needs

@@ -8,16 +8,16 @@ use borrow.Author.Needs.{needs}
 use lib.ListN.{length, set, length-set}
 use Rattle.algebra.specs.Table.{over, laid, length-laid, laid-sets, laid-after, laid-as-over}
 use Rattle.rules.specs.Bytes.{bytesOf}
-use Rattle.rules.specs.PointFile.{PH}
-use Rattle.point_writer.specs.Written.{headBytes}
+use Rattle.rules.specs.Fit.{shape}
+use Rattle.rules.specs.PointFile.{PH, pointHead}
 use Rattle.point_writer.proofs.put_head.Statement.{statement}
 use Rattle.point_writer.proofs.put_head.Tie as tie
 
 parts : (m0 n0 h p : ℕ) (d : List ℕ) {marked whole : List ℕ} → m0 < 256 → n0 < 256 → h < 256 → 8 ≤ length d
     → marked ≡ laid 0 PH d
     → whole ≡ laid 6 (bytesOf 2 p) (set (set (set (set marked 2 m0) 3 n0) 4 h) 5 0)
-    → whole ≡ over (headBytes m0 n0 h p) d
-unfolding PH bytesOf headBytes
+    → whole ≡ over (pointHead (shape m0 n0 h) p) d
+unfolding PH bytesOf pointHead
 parts m0 n0 h p d {marked} a b c l e₁ e₂ =
     e₂
     ∙ ap (laid 6 (bytesOf 2 p)) (laid-sets 2 four marked room ∙ ap (laid 2 four) e₁ ∙ laid-after 0 2 PH four d (omega arith) refl)

@@ -13,11 +13,10 @@ use Rattle.rules.specs.Fit.{Shape, shape, columns, rows, Survey, survey, pointC
 use Rattle.rules.specs.Answers.{Refusal, require, _then_, short, accepted, refused, outcome}
 use Rattle.rules.specs.Bytes.{bytesOf}
 use Rattle.rules.specs.Calls.{surveyCheck, pointsCheck}
-use Rattle.rules.specs.PointFile.{PH, pointFile, pointStart, pointFileLength, writePointsCheck, writePointsCall}
+use Rattle.rules.specs.PointFile.{PH, pq, pointHead, pointFile, pointStart, pointFileLength, writePointsCheck, writePointsCall}
 use Rattle.rules.specs.Laws.Checks.{call-refused, call-accepted}
 use Rattle.rules.specs.Laws.Passed.{cellsAt-most, Surveyed, survey-passed, cellsAt-shifted}
-use Rattle.rules.specs.Laws.PointFile.{recordOf}
-use Rattle.point_writer.specs.Written.{headBytes}
+use Rattle.rules.specs.Laws.PointFields.{recordOf}
 use Rattle.point_checks.specs.Told as points
 use Rattle.point_writer.proofs.write_points.Statement.{statement}
 use Rattle.point_writer.proofs.write_points.Tie as tie
@@ -32,35 +31,35 @@ module _ (a : Shape) (s : Survey) (output : List ℕ) where
   at-head r e = refusal r (rw e)
 
   module _ (passed : surveyCheck a s ≡ none) where
-    at-length : length output < 8 + 14 * pointCount s → outcome (refused short) output ≡ writePointsCall a s output
+    at-length : length output < 8 + 15 * pointCount s → outcome (refused short) output ≡ writePointsCall a s output
     unfolding writePointsCheck pointFileLength pointStart require _then_
     at-length l = refusal short (rw (passed, lt-leb _ _ l))
 
-    module _ (l : 8 + 14 * pointCount s ≤ length output) where
+    module _ (l : 8 + 15 * pointCount s ≤ length output) where
       at-point : (r : Refusal) → pointsCheck 16 (columns a (a .h)) (rows a (a .h)) s ≡ some r → outcome (refused r) output ≡ writePointsCall a s output
       unfolding writePointsCheck pointFileLength pointStart require _then_
       at-point r e = refusal r (rw (passed, le-leb _ _ l, e))
 
       written : {begun out : List ℕ} → pointsCheck 16 (columns a (a .h)) (rows a (a .h)) s ≡ none
-          → begun ≡ over (headBytes (a .m0) (a .n0) (a .h) (pointCount s)) output
-          → out ≡ laid 8 (joined (pointCount s) (recordOf s)) begun
-          → outcome (accepted (8 + 14 * pointCount s)) out ≡ writePointsCall a s output
-      unfolding writePointsCheck writePointsCall pointFile pointFileLength pointStart headBytes PH bytesOf require _then_
+          → begun ≡ over (pointHead a (pointCount s)) output
+          → out ≡ laid 8 (joined (pointCount s) (recordOf pq s)) begun
+          → outcome (accepted (8 + 15 * pointCount s)) out ≡ writePointsCall a s output
+      unfolding writePointsCheck writePointsCall pointFile pointFileLength pointStart pointHead PH bytesOf require _then_
       written e begins ends =
-          let records = joined (pointCount s) (recordOf s) in
+          let records = joined (pointCount s) (recordOf pq s) in
           let fine : writePointsCheck a s output ≡ none = rw (passed, le-leb _ _ l, e) in
-          let whole = ends ∙ ap (laid 8 records) begins ∙ laid-over (headBytes (a .m0) (a .n0) (a .h) (pointCount s)) records output in
+          let whole = ends ∙ ap (laid 8 records) begins ∙ laid-over (pointHead a (pointCount s)) records output in
           rw whole (call-accepted _ _ _ output fine)
 
 abbrev shaped : tie.Start → Shape
 shaped c = let a = c .args in shape (a .m0) (a .n0) (a .h)
 
 abbrev given : tie.Start → Survey
-given c = let a = c .args in survey (a .xs .now) (a .ys .now) (a .zs .now)
+given c = let a = c .args in survey (a .xs .now) (a .ys .now) (a .zs .now) (a .qs .now)
 
 module _ (c : tie.After-enum-told) where
   abbrev start : tie.Start
-  start = c .before .before .before .before .before .before
+  start = c .before .before .before .before .before .before .before
 
   passed : surveyCheck (shaped start) (given start) ≡ none
   passed = sym (c .before .before .head .ensures) ∙ ap check (c .enum-told .given .1)
@@ -84,16 +83,16 @@ enum-known-r : tie.Need-enum-known-r
 enum-known-r c = search needs
 
 returns : tie.Need-returns
-returns c = at-head _ (given (c .before .before .before .before .before .before .before)) _ _ (sym (c .before .before .before .head .ensures) ∙ ap check (c .before .r .given .1))
+returns c = at-head _ (given (c .before .before .before .before .before .before .before .before)) _ _ (sym (c .before .before .before .head .ensures) ∙ ap check (c .before .r .given .1))
 
 enum-told : tie.Need-enum-told
 enum-told c = search needs
 
-mul-if1 : tie.Need-mul-if1
-mul-if1 c = omega (arith, surveyed c)
+mul-len : tie.Need-mul-len
+mul-len c = omega (arith, surveyed c)
 
-add-if1 : tie.Need-add-if1
-add-if1 c = omega (arith, surveyed c)
+add-len : tie.Need-add-len
+add-len c = omega (arith, surveyed c)
 
 returns-2 : tie.Need-returns-2
 returns-2 c = at-length _ (given (start (c .before))) _ (passed (c .before)) (c .if1 .taken)
@@ -107,7 +106,7 @@ shl-points-2 c = omega (arith, surveyed (c .before))
 points-requires : tie.Need-points-requires
 points-requires c κs =
     let b = surveyed (c .before) in
-    (shifted-most _ _ (b .sides .1) (b .levels-most), shifted-most _ _ (b .sides .3) (b .levels-most), b .as-many-y, b .as-many-z, b .points-most)
+    (shifted-most _ _ (b .sides .1) (b .levels-most), shifted-most _ _ (b .sides .3) (b .levels-most), b .as-many-y, b .as-many-z, b .as-many-q, b .points-most)
 
 enum-known-r-2 : tie.Need-enum-known-r-2
 enum-known-r-2 c = search needs
@@ -130,13 +129,7 @@ put-head-requires c κs =
 put-points-requires : tie.Need-put-points-requires
 put-points-requires c κs =
     let b = surveyed (c .before .before .before .before .before .before .before .before .before) in
-    (b .as-many-y, b .as-many-z, omega arith)
-
-mul-t14 : tie.Need-mul-t14
-mul-t14 c = search needs
-
-add-t12 : tie.Need-add-t12
-add-t12 c = search needs
+    (b .as-many-y, b .as-many-z, b .as-many-q, omega arith)
 
 same-length : tie.Need-same-length
 same-length c = search needs
@@ -160,8 +153,8 @@ write-points-spec =
     enum-known-r
     returns
     enum-told
-    mul-if1
-    add-if1
+    mul-len
+    add-len
     returns-2
     shl-points
     shl-points-2
@@ -171,7 +164,5 @@ write-points-spec =
     enum-told-2
     put-head-requires
     put-points-requires
-    mul-t14
-    add-t12
     same-length
     returns-4)

@@ -34,7 +34,7 @@ put-lattice-requires c κs =
     let m = c .before .before .before in
     let fit = m .before .before .before .before .before .before in
     let floats = fit .before in
-    let pre = floats .before .before .before .before .before .before .before .pre in
+    let pre = floats .before .before .before .before .before .before .before .before .pre in
     let r =
     room (pre .0) _ (slice-aggregate-fit (floats .before .before .before)) (slice-aggregate-fit-2 (floats .before .before)) (slice-aggregate-fit-3 (floats .before)) (slice-aggregate-fit-4 floats)
     (fit .fit .ensures .0) _ _ (ap told (m .m .given .1)) in
@@ -55,7 +55,7 @@ returns c =
     let m = put .before .before .before .before in
     let fit = m .before .before .before .before .before .before in
     let floats = fit .before in
-    let pre = floats .before .before .before .before .before .before .before .pre in
+    let pre = floats .before .before .before .before .before .before .before .before .pre in
     written-as
     (file-is (pre .0) _ (slice-aggregate-fit (floats .before .before .before)) (slice-aggregate-fit-2 (floats .before .before)) (slice-aggregate-fit-3 (floats .before)) (slice-aggregate-fit-4 floats)
     (fit .fit .ensures .0) _ _ (ap told (m .m .given .1)))
@@ -70,7 +70,7 @@ returns-2 c =
     let r = put .before .before .before in
     let fit = r .before .before .before .before .before .before in
     let floats = fit .before in
-    let pre = floats .before .before .before .before .before .before .before .pre in
+    let pre = floats .before .before .before .before .before .before .before .before .pre in
     written-as
     (refusal (pre .0) _ (slice-aggregate-fit (floats .before .before .before)) (slice-aggregate-fit-2 (floats .before .before)) (slice-aggregate-fit-3 (floats .before)) (slice-aggregate-fit-4 floats)
     (fit .fit .ensures .0) _ (ap told (r .r .given .1)))

@@ -33,7 +33,7 @@ returns c =
 abbrev opened : tie.Else1 → tie.Start
 opened c = c .before .before .before .before
 
-short : (c : tie.Else1) → length (opened c .args .input .now) ≤ 7_008
+short : (c : tie.Else1) → length (opened c .args .input .now) ≤ 7_508
 short c = leb-true _ _ (sym (c .before .few-bytes .ensures) ∙ not-false _ (c .if1 .left))
 
 slice-aggregate-read-points : tie.Need-slice-aggregate-read-points
@@ -44,6 +44,9 @@ slice-aggregate-read-points-2 c = search needs
 
 slice-aggregate-read-points-3 : tie.Need-slice-aggregate-read-points-3
 slice-aggregate-read-points-3 c = search needs
+
+slice-aggregate-read-points-4 : tie.Need-slice-aggregate-read-points-4
+slice-aggregate-read-points-4 c = search needs
 
 read-points-requires : tie.Need-read-points-requires
 read-points-requires c κs = search needs
@@ -57,21 +60,27 @@ put-refused-requires-2 c κs = search needs
 enum-known-a : tie.Need-enum-known-a
 enum-known-a c = search needs
 
--- what the three slices hold when the reader is done
+-- before the reader's slices
+abbrev unread : tie.After-read-points → tie.Else1
+unread c = c .before .before .before .before .before
+
+-- what the slices hold when the reader is done
 abbrev got : tie.After-read-points → Survey
-got c = survey (c .read-points .last .1 .0) (c .read-points .last .1 .1 .0) (c .read-points .last .1 .1 .1 .0)
+got c = survey (c .read-points .last .1 .0) (c .read-points .last .1 .1 .0) (c .read-points .last .1 .1 .1 .0) (c .read-points .last .1 .1 .1 .1 .0)
+
+abbrev reader : tie.After-a → tie.After-read-points
+reader c = c .before .before .before .before .before .before
 
 -- the reader has accepted the file
 read : (c : tie.After-a)
-    → ReadAs (opened (c .before .before .before .before .before .before .before .before .before) .args .input .now)
+    → ReadAs (opened (unread (reader c)) .args .input .now)
     (record { shape = shape (c .a .given .0 .0 .m0) (c .a .given .0 .0 .n0) (c .a .given .0 .0 .h); points = c .a .given .0 .0 .points })
-    (got (c .before .before .before .before .before))
+    (got (reader c))
 read c =
-    let reader = c .before .before .before .before .before in
-    let zs = reader .before in
-    let start = zs .before .before .before in
-    read-as _ (short start) _ (slice-aggregate-read-points (zs .before .before)) (slice-aggregate-read-points-2 (zs .before)) (slice-aggregate-read-points-3 zs)
-    (reader .read-points .ensures) _ (ap told (c .a .given .1)) (λ i. start .before .before .before .shared-slice-known .given i .fits)
+    let r = reader c in
+    let qs = r .before in
+    read-as _ (short (unread r)) _ (slice-aggregate-read-points (qs .before .before .before)) (slice-aggregate-read-points-2 (qs .before .before)) (slice-aggregate-read-points-3 (qs .before)) (slice-aggregate-read-points-4 qs)
+    (r .read-points .ensures) _ (ap told (c .a .given .1)) (λ i. unread r .before .before .before .shared-slice-known .given i .fits)
 
 few-cells-requires : tie.Need-few-cells-requires
 few-cells-requires c κs = shape-most (read (c .before))
@@ -95,33 +104,41 @@ fits c = sym (c .before .few-cells .ensures) ∙ not-false _ (c .if2 .left)
 
 array-share-prefix-xs : tie.Need-array-share-prefix-xs
 array-share-prefix-xs c =
-    let read-points = c .before .before .before .before .before .before .before .before in
-    omega (arith, points-fit (read (c .before .before .before)), read-points .read-points .kept .1 .0, slice-aggregate-read-points (read-points .before .before .before))
+    let a = c .before .before .before in
+    omega (arith, points-fit (read a), reader a .read-points .kept .1 .0, slice-aggregate-read-points (reader a .before .before .before .before))
 
 slice-aggregate-fit-and-write : tie.Need-slice-aggregate-fit-and-write
 slice-aggregate-fit-and-write c = sym (length-take-le _ _ (array-share-prefix-xs (c .before)))
 
 array-share-prefix-ys : tie.Need-array-share-prefix-ys
 array-share-prefix-ys c =
-    let read-points = c .before .before .before .before .before .before .before .before .before in
-    omega (arith, points-fit (read (c .before .before .before .before)), read-points .read-points .kept .1 .1 .0, slice-aggregate-read-points-2 (read-points .before .before))
+    let a = c .before .before .before .before in
+    omega (arith, points-fit (read a), reader a .read-points .kept .1 .1 .0, slice-aggregate-read-points-2 (reader a .before .before .before))
 
 slice-aggregate-fit-and-write-2 : tie.Need-slice-aggregate-fit-and-write-2
 slice-aggregate-fit-and-write-2 c = sym (length-take-le _ _ (array-share-prefix-ys (c .before)))
 
 array-share-prefix-zs : tie.Need-array-share-prefix-zs
 array-share-prefix-zs c =
-    let read-points = c .before .before .before .before .before .before .before .before .before .before in
-    omega (arith, points-fit (read (c .before .before .before .before .before)), read-points .read-points .kept .1 .1 .1 .0, slice-aggregate-read-points-3 (read-points .before))
+    let a = c .before .before .before .before .before in
+    omega (arith, points-fit (read a), reader a .read-points .kept .1 .1 .1 .0, slice-aggregate-read-points-3 (reader a .before .before))
 
 slice-aggregate-fit-and-write-3 : tie.Need-slice-aggregate-fit-and-write-3
 slice-aggregate-fit-and-write-3 c = sym (length-take-le _ _ (array-share-prefix-zs (c .before)))
 
+array-share-prefix-qs : tie.Need-array-share-prefix-qs
+array-share-prefix-qs c =
+    let a = c .before .before .before .before .before .before in
+    omega (arith, points-fit (read a), reader a .read-points .kept .1 .1 .1 .1 .0, slice-aggregate-read-points-4 (reader a .before))
+
+slice-aggregate-fit-and-write-4 : tie.Need-slice-aggregate-fit-and-write-4
+slice-aggregate-fit-and-write-4 c = sym (length-take-le _ _ (array-share-prefix-qs (c .before)))
+
 fit-and-write-requires : tie.Need-fit-and-write-requires
 fit-and-write-requires c κs =
-    let narrow = c .before .before .before .before in
+    let narrow = c .before .before .before .before .before in
     let a = narrow .before .before .before in
-    (taken (read a) (fits narrow), opened (a .before .before .before .before .before .before .before .before .before) .pre)
+    (taken (read a) (fits narrow), opened (unread (reader a)) .pre)
 
 same-length-3 : tie.Need-same-length-3
 same-length-3 c = search needs
@@ -130,12 +147,11 @@ returns-3 : tie.Need-returns-3
 returns-3 c =
     let put = c .before .before in
     let matched = put .before .before .before in
-    let reader = matched .before .before .before .before .before in
-    let zs = reader .before in
-    let start = zs .before .before .before in
+    let r = matched .before .before .before .before .before .before in
+    let qs = r .before in
     written-as
-    (refusal _ (short start) _ (slice-aggregate-read-points (zs .before .before)) (slice-aggregate-read-points-2 (zs .before)) (slice-aggregate-read-points-3 zs)
-    (reader .read-points .ensures) _ (ap told (matched .r .given .1)))
+    (refusal _ (short (unread r)) _ (slice-aggregate-read-points (qs .before .before .before)) (slice-aggregate-read-points-2 (qs .before .before)) (slice-aggregate-read-points-3 (qs .before)) (slice-aggregate-read-points-4 qs)
+    (r .read-points .ensures) _ (ap told (matched .r .given .1)))
     (put .put-refused2 .ensures)
 
 same-length-4 : tie.Need-same-length-4
@@ -144,7 +160,7 @@ same-length-4 c = search needs
 returns-4 : tie.Need-returns-4
 returns-4 c =
     let put = c .before .before in
-    let narrow = put .before .before .before .before .before in
+    let narrow = put .before .before .before .before .before .before in
     written-as (answer-is (read (narrow .before .before .before)) (fits narrow)) (put .fit-and-write .ensures)
 
 pub write-spec : {M : Type 1} → statement M
@@ -158,6 +174,7 @@ write-spec =
     slice-aggregate-read-points
     slice-aggregate-read-points-2
     slice-aggregate-read-points-3
+    slice-aggregate-read-points-4
     read-points-requires
     enum-known-r
     put-refused-requires-2
@@ -172,6 +189,8 @@ write-spec =
     slice-aggregate-fit-and-write-2
     array-share-prefix-zs
     slice-aggregate-fit-and-write-3
+    array-share-prefix-qs
+    slice-aggregate-fit-and-write-4
     fit-and-write-requires
     same-length-3
     returns-3
