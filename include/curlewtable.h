@@ -19,7 +19,7 @@
  * Refusals:
  *    1  cells a side outside 1..16 (fit, point writer), 1..256 (refine), 1..512 (others)        place 0
  *    2  h above 5, or U not 16, 32, 64, 128, 256 or 512                                         place 0
- *    3  x, y, z lists differ in length, or over 65,535 points                                   place 0
+ *    3  x, y, z, q lists differ in length, or over 65,535 points                                place 0
  *    4  a lent slice is too short                                                               place 0
  *    5  position outside                           the point's or node's index, 0 for a single height or slope
  *    6  height or control value out of range                  its index, of a storage's heights from 1; 0 for a stage
@@ -33,13 +33,14 @@
  *   14  a sum out of range in a level of the fit                                                the level
  *   15  a difference from the base of the fit out of range                                      the point's index
  *   16  a node side outside 1..100 decimetres                                                   place 0
+ *   17  a confidence of 0                                                                       the point's index
  * So place 0 of an any_above's 6 is the stage's or the first control value's.
  * A refusal leaves every slice as it was, but for 7, 13 and 14: the scratch prefixes are then zero, as after an acceptance, and
- * lattice and residuals are as they were. The order of the checks is 1, 2, 3, 8, 4, then 5 and 6; points in list order, 5 before
- * 6 in a point, elsewhere the whole lattice (6) before positions (5); a stage (6) before the lattice or the heights; of a storage
- * the side (16) before 6; of a fit whose points are all in order the differences (15), and then its levels one by one, in each all
- * quotients (7), then all residuals (13), then all sums (14), and after the last level the sums with the base (14); readers record
- * by record, 9, 10, 11, then 12, then 4.
+ * lattice and residuals are as they were. The order of the checks is 1, 2, 3, 8, 4, then 5 and 6; points in list order, in a point
+ * 5, then 6, then 17, elsewhere the whole lattice (6) before positions (5); a stage (6) before the lattice or the heights; of a
+ * storage the side (16) before 6; of a fit whose points are all in order the differences (15), and then its levels one by one, in
+ * each all quotients (7), then all residuals (13), then all sums (14), and after the last level the sums with the base (14); readers
+ * record by record, 9, 10, 11, then 12, then 4.
  */
 #ifndef CURLEWTABLE_H
 #define CURLEWTABLE_H
@@ -62,9 +63,11 @@ extern "C" {
 /* whole scratch, 3K + p, and f64 scratch, 2K, of a fit of p points */
 #define CURLEW_FIT_WHOLE(m0, n0, h, p) (3 * CURLEW_FIT_LATTICE(m0, n0, h) + (size_t)(p))
 #define CURLEW_FIT_FLOATS(m0, n0, h) (2 * CURLEW_FIT_LATTICE(m0, n0, h))
-/* bytes of a lattice file, and of a point file */
+/* bytes of a lattice file */
 #define CURLEW_LATTICE_FILE(m, n) (10 + ((size_t)(n) + 3) * (4 + 8 * ((size_t)(m) + 3)))
-#define CURLEW_POINT_FILE(p) (8 + 14 * (size_t)(p))
+/* bytes of a point file of PQ records, which the writer writes, and of one of PT records, which the reader takes too */
+#define CURLEW_POINT_FILE(p) (8 + 15 * (size_t)(p))
+#define CURLEW_PT_FILE(p) (8 + 14 * (size_t)(p))
 
 /* ---- answers */
 
@@ -118,16 +121,19 @@ typedef struct {
  * The base of the fit is the mean of the z, to the nearest whole micrometre, halves up, or 0 with no points. The levels are fitted
  * to the differences, z less the base, and the base is added to every control value at the end: far from any point the ground is
  * as high as the base.
+ * q is a point's confidence, 1 to 255: in each level a point counts as q points at its place would, but for rounding; in the base it
+ * counts once. With q 1 for every point lattice and residuals are, to the bit, those of a fit without q.
  * Accepted: the cell counts of level h; the lattice and the residuals, what the levels leave of the differences, in their first K
  * and p places. The lattice is read with U = 16. At every position of the grid the height is then accepted, and within h/2 + 1
  * micrometres of the base plus the exact sum of the level surfaces.
  * After acceptance and after refusals 7, 13 and 14 the named scratch prefixes are zero. Places past the prefixes never change.
- * Refuses 1 to 6, then 15; then level by level 7, 13, 14: a quotient, which would be a control value of the level; a residual, what
- * the level leaves of a difference; a sum, a control value of the lattices added up so far, and after level h with the base.
+ * Refuses 1 to 4; point by point 5, 6, 17; then 15; then level by level 7, 13, 14: a quotient, which would be a control value of
+ * the level; a residual, what the level leaves of a difference; a sum, a control value of the lattices added up so far, and after
+ * level h with the base.
  */
 curlew_cells curlew_fit(size_t m0, size_t n0, size_t h, const uint16_t *x, size_t x_len, const uint16_t *y, size_t y_len,
-                        const int64_t *z, size_t z_len, int64_t *lattice, size_t lattice_len, int64_t *residual, size_t residual_len,
-                        int64_t *whole, size_t whole_len, double *floats, size_t floats_len);
+                        const int64_t *z, size_t z_len, const uint8_t *q, size_t q_len, int64_t *lattice, size_t lattice_len,
+                        int64_t *residual, size_t residual_len, int64_t *whole, size_t whole_len, double *floats, size_t floats_len);
 
 /*
  * The height at (x, y) of a lattice of m by n cells (1..512) of unit positions each; x from 0 to unit * m, y from 0 to unit * n.
@@ -191,13 +197,20 @@ curlew_cells curlew_read_lattice(const uint8_t *file, size_t file_len, int64_t *
 /* Writes a lattice file of CURLEW_LATTICE_FILE(m, n) bytes. Refuses 1, 4, 6. */
 curlew_count curlew_write_lattice(size_t m, size_t n, const int64_t *lattice, size_t lattice_len, uint8_t *output, size_t output_len);
 
-/* Reads a point file: its header, and p places of each list. Refuses 9, 10, 11, 12, 4. */
+/*
+ * Reads a point file, of PT or of PQ records: its header, and p places of each list. A PT point has q 1. The first record sets the
+ * file's kind, and a later one of the other mark is 10. A q of 0 is 11, at its byte. Refuses 9, 10, 11, 12, 4.
+ */
 curlew_header curlew_read_points(const uint8_t *file, size_t file_len, uint16_t *x, size_t x_len, uint16_t *y, size_t y_len,
-                                 int64_t *z, size_t z_len);
+                                 int64_t *z, size_t z_len, uint8_t *q, size_t q_len);
 
-/* Writes a point file of CURLEW_POINT_FILE(p) bytes. Refuses 1, 2, 3, 4, 5, 6. */
+/*
+ * Writes a point file of PQ records, CURLEW_POINT_FILE(p) bytes. What was read and is written again is the same bytes if its records
+ * were PQ, else its PQ form. Refuses 1, 2, 3, 4; point by point 5, 6, 17.
+ */
 curlew_count curlew_write_points(size_t m0, size_t n0, size_t h, const uint16_t *x, size_t x_len, const uint16_t *y, size_t y_len,
-                                 const int64_t *z, size_t z_len, uint8_t *output, size_t output_len);
+                                 const int64_t *z, size_t z_len, const uint8_t *q, size_t q_len, uint8_t *output,
+                                 size_t output_len);
 
 #ifdef __cplusplus
 }

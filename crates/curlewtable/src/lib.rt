@@ -25,15 +25,16 @@ pub extern "C" fn curlew_fit(
     x: &[u16],
     y: &[u16],
     z: &[i64],
+    q: &[u8],
     lattice: &mut [i64],
     residual: &mut [i64],
     whole: &mut [i64],
     floats: &mut [f64],
 ) -> CellsAnswer
-    ensures { λ r. ⌜ handed r (calls.lent (now (lattice .exit)) (now (residual .exit)) (now (whole .exit)) (now (floats .exit))) ≡ inFields cellsFields (calls.fitCall (shape m0 n0 h) (survey (now (x .entry)) (now (y .entry)) (now (z .entry))) (calls.lent (now (lattice .entry)) (now (residual .entry)) (now (whole .entry)) (now (floats .entry)))) ⌝ }
-    ensures { λ r. ⌜ (r .number ≡ 0 → CloseEverywhere (shape m0 n0 h) (survey (now (x .entry)) (now (y .entry)) (now (z .entry))) (record { m = r .m; n = r .n }) (now (lattice .exit))) ⌝ }
+    ensures { λ r. ⌜ handed r (calls.lent (now (lattice .exit)) (now (residual .exit)) (now (whole .exit)) (now (floats .exit))) ≡ inFields cellsFields (calls.fitCall (shape m0 n0 h) (survey (now (x .entry)) (now (y .entry)) (now (z .entry)) (now (q .entry))) (calls.lent (now (lattice .entry)) (now (residual .entry)) (now (whole .entry)) (now (floats .entry)))) ⌝ }
+    ensures { λ r. ⌜ (r .number ≡ 0 → CloseEverywhere (shape m0 n0 h) (survey (now (x .entry)) (now (y .entry)) (now (z .entry)) (now (q .entry))) (record { m = r .m; n = r .n }) (now (lattice .exit))) ⌝ }
 {
-    fields::cells(fit::fit(m0, n0, h, x, y, z, lattice, residual, whole, floats))
+    fields::cells(fit::fit(m0, n0, h, x, y, z, q, lattice, residual, whole, floats))
 }
 
 #[no_mangle]
@@ -152,10 +153,11 @@ pub extern "C" fn curlew_read_points(
     x: &mut [u16],
     y: &mut [u16],
     z: &mut [i64],
+    q: &mut [u8],
 ) -> HeaderAnswer
-    ensures { λ r. ⌜ handed r (survey (now (x .exit)) (now (y .exit)) (now (z .exit))) ≡ inFields headerFields (pointFile.readPointsCall (now (file .entry)) (survey (now (x .entry)) (now (y .entry)) (now (z .entry)))) ⌝ }
+    ensures { λ r. ⌜ handed r (survey (now (x .exit)) (now (y .exit)) (now (z .exit)) (now (q .exit))) ≡ inFields headerFields (pointFile.readPointsCall (now (file .entry)) (survey (now (x .entry)) (now (y .entry)) (now (z .entry)) (now (q .entry)))) ⌝ }
 {
-    fields::header(point_reader::read_points(file, x, y, z))
+    fields::header(point_reader::read_points(file, x, y, z, q))
 }
 
 #[no_mangle]
@@ -166,9 +168,10 @@ pub extern "C" fn curlew_write_points(
     x: &[u16],
     y: &[u16],
     z: &[i64],
+    q: &[u8],
     output: &mut [u8],
 ) -> CountAnswer
-    ensures { λ r. ⌜ handed r (now (output .exit)) ≡ inFields countFields (pointFile.writePointsCall (shape m0 n0 h) (survey (now (x .entry)) (now (y .entry)) (now (z .entry))) (now (output .entry))) ⌝ }
+    ensures { λ r. ⌜ handed r (now (output .exit)) ≡ inFields countFields (pointFile.writePointsCall (shape m0 n0 h) (survey (now (x .entry)) (now (y .entry)) (now (z .entry)) (now (q .entry))) (now (output .entry))) ⌝ }
 {
-    fields::count(point_writer::write_points(m0, n0, h, x, y, z, output))
+    fields::count(point_writer::write_points(m0, n0, h, x, y, z, q, output))
 }

@@ -20,10 +20,13 @@ same-length-2 c = search needs
 same-length-3 : tie.Need-same-length-3
 same-length-3 c = search needs
 
+same-length-4 : tie.Need-same-length-4
+same-length-4 c = search needs
+
 returns : tie.Need-returns
-returns c = call-handed headerFields (c .header .ensures) (c .before .before .before .before .before .before .read-points .ensures)
+returns c = call-handed headerFields (c .header .ensures) (c .before .before .before .before .before .before .before .before .read-points .ensures)
 
 pub curlew-read-points-spec : {M : Type 1} → statement M
 curlew-read-points-spec =
     tie.close
-    (tie.spec read-points-requires header-requires same-length same-length-2 same-length-3 returns)
+    (tie.spec read-points-requires header-requires same-length same-length-2 same-length-3 same-length-4 returns)
