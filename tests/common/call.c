@@ -7,7 +7,7 @@
 
 #define BIT(place) (1u << (place))
 #define CELLS (BIT(M) | BIT(N))
-#define POINTS (BIT(X) | BIT(Y) | BIT(Z))
+#define POINTS (BIT(X) | BIT(Y) | BIT(Z) | BIT(Q))
 #define FITTED (BIT(LATTICE) | BIT(RESIDUAL) | BIT(WHOLE) | BIT(FLOATS))
 #define POSITION (CELLS | BIT(UNIT) | BIT(AT_X) | BIT(AT_Y))
 #define NODES (POSITION | BIT(STEP) | BIT(COLUMNS) | BIT(ROWS))
@@ -27,8 +27,8 @@ const shape shapes[FUNCTIONS] = {
 };
 
 const char *const role_names[SLICES] = {
-    [X] = "x", [Y] = "y", [Z] = "z", [LATTICE] = "lattice", [RESIDUAL] = "residual", [WHOLE] = "whole scratch",
-    [FLOATS] = "f64 scratch", [VALUES] = "values", [BYTES] = "bytes",
+    [X] = "x", [Y] = "y", [Z] = "z", [Q] = "q", [LATTICE] = "lattice", [RESIDUAL] = "residual",
+    [WHOLE] = "whole scratch", [FLOATS] = "f64 scratch", [VALUES] = "values", [BYTES] = "bytes",
 };
 
 const char *number_name(function f, unsigned place)
@@ -44,7 +44,7 @@ size_t step_of(size_t step)
 }
 
 const size_t element_size[SLICES] = {
-    [X] = sizeof(uint16_t), [Y] = sizeof(uint16_t), [Z] = sizeof(int64_t), [LATTICE] = sizeof(int64_t),
-    [RESIDUAL] = sizeof(int64_t), [WHOLE] = sizeof(int64_t), [FLOATS] = sizeof(double), [VALUES] = sizeof(int64_t),
-    [BYTES] = sizeof(uint8_t),
+    [X] = sizeof(uint16_t), [Y] = sizeof(uint16_t), [Z] = sizeof(int64_t), [Q] = sizeof(uint8_t),
+    [LATTICE] = sizeof(int64_t), [RESIDUAL] = sizeof(int64_t), [WHOLE] = sizeof(int64_t), [FLOATS] = sizeof(double),
+    [VALUES] = sizeof(int64_t), [BYTES] = sizeof(uint8_t),
 };

@@ -30,7 +30,7 @@ enum { M, N, H, UNIT = H, AT_X, AT_Y, STEP, COLUMNS, ROWS, STAGE, NODE_SIDE, NUM
  * The slices, by what they hold. VALUES and BYTES are what the header calls output; VALUES is also the raster that a storage reads,
  * BYTES the readers' file.
  */
-typedef enum { X, Y, Z, LATTICE, RESIDUAL, WHOLE, FLOATS, VALUES, BYTES, SLICES } role;
+typedef enum { X, Y, Z, Q, LATTICE, RESIDUAL, WHOLE, FLOATS, VALUES, BYTES, SLICES } role;
 
 typedef struct {
     void *at;
@@ -87,7 +87,10 @@ static inline int writes(function f, role r)
 }
 
 /* The refusals are numbered from 1 to this, and 0 is an acceptance. The largest number stands here alone. */
-enum { MOST_NUMBER = 16 };
+enum { MOST_NUMBER = 17 };
+
+/* Of a fit and of the point writer: a confidence of 0. */
+enum { NO_CONFIDENCE = 17 };
 
 /* Those of a fit alone: a difference from the base out of range; and in a level a quotient, a residual or a sum. */
 enum { DIFFERENCE_OUT = 15, QUOTIENT_OUT = 7, RESIDUAL_OUT = 13, SUM_OUT = 14 };

@@ -10,11 +10,11 @@
 typedef void test_case(generator *g, size_class size);
 
 /*
- * The surface engine. The fits of range_end_case are the last that are accepted and the first that is refused; those of
- * leap_case are refused in late levels too; those of tie_case have quotients that are exact halves. slope_case also asks for
- * the height, which is refused in the same way.
+ * The surface engine. Those of scaled_case are fitted again with more confidence in all points alike; the fits of range_end_case are
+ * the last that are accepted and the first that is refused; those of leap_case are refused in late levels too; those of tie_case
+ * have quotients that are exact halves. slope_case also asks for the height, which is refused in the same way.
  */
-test_case fit_case, range_end_case, leap_case, tie_case, height_case, slope_case, refine_case, raster_case;
+test_case fit_case, scaled_case, range_end_case, leap_case, tie_case, height_case, slope_case, refine_case, raster_case;
 
 /* The ground above a stage: a few stages on one lattice, each answered or refused as a scan of the raster of the same nodes. */
 test_case above_case;
@@ -47,7 +47,7 @@ size_t some_nodes(generator *g, size_t start, size_t far, size_t step, size_t mo
 /* One trouble of a call on a raster's nodes. */
 void raster_trouble(generator *g, draft *d);
 
-/* The two files: written, then read back whole or damaged. */
+/* The two files: written, then read back whole or damaged; point files of PT records, PQ records or both. */
 test_case lattice_file_case, point_file_case;
 
 /*
@@ -62,12 +62,13 @@ void lend_fit(generator *g, draft *d);
 /* The number of points that suits a size. */
 size_t some_point_count(generator *g, size_class size);
 
-/* Every cut of small files, and every byte of them changed to every value, or to a few. */
+/* Every cut of small files, and every byte of them changed to every value, or to a few; points in every mixture of the two kinds. */
 void every_file_damage(int few_values);
 
 /*
- * The examples of documents 01 and 02 by their printed values, slopes, bases, stages and storages by known ones, a fit refused for
- * each figure, and each value of some lattices and rasters out of range in turn; returns how many examples there are.
+ * The examples of documents 01 and 02 by their printed values, slopes, bases, stages, storages, confidences and both kinds of point
+ * file by known ones, a fit refused for each figure, and each value of some lattices and rasters out of range in turn; returns how
+ * many examples there are.
  */
 size_t run_examples(void);
 

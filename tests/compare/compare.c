@@ -38,10 +38,10 @@ static const struct {
     test_case *run;
     size_t weight;
 } kinds[] = {
-    { fit_case, 200 }, { range_end_case, 10 }, { leap_case, 20 }, { tie_case, 50 }, { height_case, 150 },
-    { slope_case, 150 }, { refine_case, 100 }, { raster_case, 200 }, { above_case, 100 }, { storage_case, 150 },
-    { sampled_case, 50 }, { lattice_file_case, 150 }, { point_file_case, 150 }, { demand3_case, 3 }, { exact_case, 2 },
-    { half_case, 30 },
+    { fit_case, 200 }, { scaled_case, 20 }, { range_end_case, 10 }, { leap_case, 20 }, { tie_case, 50 },
+    { height_case, 150 }, { slope_case, 150 }, { refine_case, 100 }, { raster_case, 200 }, { above_case, 100 },
+    { storage_case, 150 }, { sampled_case, 50 }, { lattice_file_case, 150 }, { point_file_case, 150 }, { demand3_case, 3 },
+    { exact_case, 2 }, { half_case, 30 },
 };
 
 #define KINDS COUNT(kinds)

@@ -45,7 +45,7 @@ static void fit_again(const call *c)
     const size_t *v = c->number, points = c->slice[Z].length;
 
     ref_fit_levels(v[M], v[N], v[H], c->slice[X].at, points, c->slice[Y].at, points, c->slice[Z].at, points,
-                   lattice, MOST_PLACES, residual, MOST_POINTS, whole, 3 * MOST_PLACES + MOST_POINTS,
+                   c->slice[Q].at, points, lattice, MOST_PLACES, residual, MOST_POINTS, whole, 3 * MOST_PLACES + MOST_POINTS,
                    floats, 2 * MOST_PLACES, levels);
 }
 
@@ -200,10 +200,13 @@ static void two_nodes(generator *g, draft *d)
     set_point(d, 1, unit * (first + 3 + below(g, v[M] - 2 - first)), unit * below(g, v[N] + 1), base - difference);
 }
 
-/* Two opposite heights close together: too faint for the coarse levels, which stay 0, but not for the finest. */
+/*
+ * Two opposite heights close together, of one confidence: too faint for the coarse levels, which stay 0, but not for the finest.
+ */
 static void opposite_pair(generator *g, draft *d)
 {
     const int64_t z = between(g, -3, 3);
+    uint8_t *q = d->call.slice[Q].at;
     size_t x, y;
 
     d->call.number[H] = 3;
@@ -212,6 +215,7 @@ static void opposite_pair(generator *g, draft *d)
     y = below(g, d->far_y + 1);
     set_point(d, 0, x, y, z);
     set_point(d, 1, x + 8, y, -z);
+    q[1] = q[0];
 }
 
 void exact_case(generator *g, size_class size)

@@ -6,6 +6,8 @@
 
 #include "../../include/curlewtable.h"
 
+#include <string.h>
+
 /* ---- fits ---- */
 
 size_t some_point_count(generator *g, size_class size)
@@ -36,6 +38,54 @@ void fit_case(generator *g, size_class size)
     lend_fit(g, &d);
     some_troubles(g, &d, points_trouble);
     trial(&d.call);
+}
+
+/* ---- fits with more confidence in all points ---- */
+
+/* A copy of what a fit left in a slice. */
+static const int64_t *kept_values(const draft *d, role r)
+{
+    static int64_t *kept[SLICES];
+
+    if (kept[r] == NULL)
+        kept[r] = room(capacity[r], sizeof(int64_t));
+    memcpy(kept[r], d->call.slice[r].at, d->exact[r] * sizeof(int64_t));
+    return kept[r];
+}
+
+static int same_results(const draft *d, role r, const int64_t *before)
+{
+    return memcmp(d->call.slice[r].at, before, d->exact[r] * sizeof(int64_t)) == 0;
+}
+
+/*
+ * Every confidence times the same power of two: both sums of a control value grow by just that power, and nothing else may change.
+ * With every confidence 1 that is the fit without confidences.
+ */
+void scaled_case(generator *g, size_class size)
+{
+    const unsigned shift = 1 + (unsigned)below(g, 7);
+    const int64_t *lattice, *residual;
+    draft d = new_draft(FIT);
+    uint8_t *q = d.call.slice[Q].at;
+    answer before, after;
+    size_t at;
+
+    some_fit_grid(g, &d, size);
+    some_points(g, &d, some_point_count(g, size));
+    for (at = 0; at < d.exact[Q]; at++)
+        q[at] = (uint8_t)(1 + q[at] % (255u >> shift));
+    lend_fit(g, &d);
+    before = trial(&d.call);
+    lattice = kept_values(&d, LATTICE);
+    residual = kept_values(&d, RESIDUAL);
+    for (at = 0; at < d.exact[Q]; at++)
+        q[at] = (uint8_t)(q[at] << shift);
+    lend_fit(g, &d);                            /* noise again */
+    after = trial(&d.call);
+    if (memcmp(&before, &after, sizeof before) != 0
+        || (after.field[NUMBER] == 0 && !(same_results(&d, LATTICE, lattice) && same_results(&d, RESIDUAL, residual))))
+        trial_failed(&d.call, "another fit, where all confidences grew alike");
 }
 
 /* ---- fits at the very end of the range ---- */
@@ -129,6 +179,8 @@ void leap_case(generator *g, size_class size)
  * such multiples, quotients of level 0 are whole numbers and halves. So the last bit of the f64 arithmetic decides how they
  * round, and any other order of its operations shows. (The order of S shows at 12 sixteenths, not at 0 and 8.) As many points
  * again, four cells away, where they touch no control value of the first ones, stand as far below the base as these above it.
+ * Confidences go by pairs, 1 and one less than a power of two: the weighted mean of the differences is then over the points'
+ * number times half that power, by which the multiples are taken.
  */
 static const struct {
     size_t x, y, points;
@@ -138,23 +190,37 @@ static const struct {
     { 0, 12, 64, 17649 }, { 12, 0, 64, 17649 }, { 8, 12, 256, 519665 }, { 12, 8, 256, 519665 },
 };
 
+#define MOST_DIFFERENCE (LIMIT / 4)
+
 /*
- * Random multiples for differences. Some of the faint lists sum to one multiple, so that the faintest quotient is 1/2 or beside
- * it: just below 1/2, adding 1/2 in f64 would give 1.
+ * Random multiples for differences. Some of the faint lists sum to one multiple, each as often as its confidence says, so that the
+ * faintest quotient is 1/2 or beside it: just below 1/2, adding 1/2 in f64 would give 1.
  */
-static void set_multiples(generator *g, int64_t *z, size_t points, int64_t multiple)
+static void set_multiples(generator *g, int64_t *z, const uint8_t *q, size_t points, int64_t multiple)
 {
     const int faint = once_in(g, 2);
-    const int64_t most = faint ? 2 : 1000;
-    int64_t sum = 0;
+    const int64_t fitting = MOST_DIFFERENCE / multiple, most = faint ? 2 : fitting < 1000 ? fitting : 1000;
+    int64_t sum = 0, first;
     size_t at;
 
     for (at = 0; at < points; at++) {
         z[at] = multiple * between(g, -most, most);
-        sum += z[at];
+        sum += q[at] * z[at];
     }
-    if (faint && once_in(g, 2))
-        z[0] += multiple - sum;
+    first = z[0] + multiple - sum;              /* its confidence is 1 */
+    if (faint && once_in(g, 2) && first >= -MOST_DIFFERENCE && first <= MOST_DIFFERENCE)
+        z[0] = first;
+}
+
+/* Confidences by pairs that sum to a power of two, which is returned. */
+static int64_t pair_confidences(generator *g, uint8_t *q, size_t points)
+{
+    const unsigned power = once_in(g, 3) ? 1 : 1 + (unsigned)below(g, 8);
+    size_t at;
+
+    for (at = 0; at < points; at++)
+        q[at] = at % 2 == 0 ? 1 : (uint8_t)((1u << power) - 1);
+    return INT64_C(1) << power;
 }
 
 void tie_case(generator *g, size_class size)
@@ -164,6 +230,7 @@ void tie_case(generator *g, size_class size)
     draft d = new_draft(FIT);
     uint16_t *x = d.call.slice[X].at, *y = d.call.slice[Y].at;
     int64_t *z = d.call.slice[Z].at;
+    uint8_t *q = d.call.slice[Q].at;
     size_t unit, at;
 
     some_fit_grid(g, &d, SMALL);
@@ -172,7 +239,7 @@ void tie_case(generator *g, size_class size)
     unit = (size_t)16 << d.call.number[H];
     x[0] = (uint16_t)(unit * below(g, d.call.number[M] - 4) + ties[tie].x * unit / 16);
     y[0] = (uint16_t)(unit * below(g, d.call.number[N]) + ties[tie].y * unit / 16);
-    set_multiples(g, z, points, ties[tie].multiple);
+    set_multiples(g, z, q, points, ties[tie].multiple * pair_confidences(g, q, 2 * points) / 2);
     for (at = 0; at < 2 * points; at++) {
         x[at] = (uint16_t)(x[0] + (at < points ? 0 : 4 * unit));
         y[at] = y[0];

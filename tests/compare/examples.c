@@ -1,9 +1,10 @@
 /*
  * The examples of document 01 ("Table of checked examples"), as document 02 leaves them, and a few more with known answers,
  * among them slopes, ground above a stage, storages and a fit refused for each figure, each as a trial whose answer and results are
- * held to those values.
+ * held to those values. Those of confidences are in confidence.c.
  */
 #include "cases.h"
+#include "examples.h"
 #include "trial.h"
 
 #include "../../include/curlewtable.h"
@@ -13,34 +14,32 @@
 static generator g = { 1 };
 static size_t examples;
 
-static void begin(const char *name)
+void begin(const char *name)
 {
     trial_name(name, 1);
     examples++;
 }
 
-static void need(const draft *d, int holds)
+void need(const draft *d, int holds)
 {
     if (!holds)
         trial_failed(&d->call, "not the example's result");
 }
 
-/* Runs the call, whose answer must be these two numbers and these first two fields. */
-static void expect(const draft *d, uint64_t number, uint64_t place, uint64_t first, uint64_t second)
+void expect(const draft *d, uint64_t number, uint64_t place, uint64_t first, uint64_t second)
 {
     const answer a = trial(&d->call);
     need(d, a.field[NUMBER] == number && a.field[PLACE] == place && a.field[FIRST] == first && a.field[SECOND] == second);
 }
 
-static const int64_t *values_of(const draft *d, role r)
+const int64_t *values_of(const draft *d, role r)
 {
     return d->call.slice[r].at;
 }
 
 /* ---- fits ---- */
 
-/* A fit of 1 by 1 coarsest cells. */
-static draft fit_of(size_t h, const uint16_t *x, const uint16_t *y, const int64_t *z, size_t points)
+draft fit_of(size_t h, const uint16_t *x, const uint16_t *y, const int64_t *z, size_t points)
 {
     draft d = new_draft(FIT);
 
@@ -50,6 +49,7 @@ static draft fit_of(size_t h, const uint16_t *x, const uint16_t *y, const int64_
     memcpy(d.call.slice[X].at, x, points * sizeof *x);
     memcpy(d.call.slice[Y].at, y, points * sizeof *y);
     memcpy(d.call.slice[Z].at, z, points * sizeof *z);
+    memset(d.call.slice[Q].at, 1, points);
     lend_fit(&g, &d);
     d.call.number[H] = h;
     return d;
@@ -651,6 +651,7 @@ size_t run_examples(void)
     offender_examples();
     above_examples();
     storage_examples();
+    confidence_examples();
     file_examples();
     return examples;
 }

@@ -1,5 +1,6 @@
 /*
- * Cases of the two files: each file is written by the library, damaged or not, and read back.
+ * Cases of the two files: each file is written by the library, damaged or not, and read back. The writer writes PQ records; point files
+ * of PT records, and of both, are made of its bytes here.
  */
 #include "cases.h"
 #include "trial.h"
@@ -17,10 +18,68 @@ typedef struct {
     size_t far_x, far_y;                        /* of a point file's grid */
 } file;
 
+#define HEADER_BYTES 8                          /* of a point file */
+#define PT_BYTES 14
+#define PQ_BYTES 15
+
 /* Where record i starts; the closing record is the one after the last. */
 static size_t record_start(const file *f, size_t i)
 {
     return f->header + i * f->record;
+}
+
+/* A copy of a file in memory of its own, which is made when it is first needed. */
+static uint8_t *copy_to(uint8_t **memory, const uint8_t *bytes, size_t length)
+{
+    if (*memory == NULL)
+        *memory = room(capacity[BYTES], 1);
+    memcpy(*memory, bytes, length);
+    return *memory;
+}
+
+/* ---- the two kinds of point record ---- */
+
+/* Puts a record down as one of either kind, and returns what follows it. A PT has q 1. */
+static uint8_t *put_record(uint8_t *to, const uint8_t *record, int from_pq, int as_pq)
+{
+    memcpy(to, record, PT_BYTES);
+    if (from_pq != as_pq)
+        to[1] = as_pq ? 'Q' : 'T';
+    if (as_pq)
+        to[PT_BYTES] = from_pq ? record[PT_BYTES] : 1;
+    return to + (as_pq ? PQ_BYTES : PT_BYTES);
+}
+
+/* Makes records of the other kind of some of a point file's, which may not be cut: all of it then is of that kind, or it is mixed. */
+static void change_kind(file *f, size_t from, size_t to)
+{
+    static uint8_t *memory;
+    const uint8_t *copy = copy_to(&memory, f->bytes, f->length);
+    const size_t rest = record_start(f, f->records);
+    const int are_pq = f->record == PQ_BYTES;
+    uint8_t *at = f->bytes + record_start(f, from);
+    size_t i;
+
+    for (i = from; i < f->records; i++)
+        at = put_record(at, copy + record_start(f, i), are_pq, i < to ? !are_pq : are_pq);
+    memcpy(at, copy + rest, f->length - rest);
+    f->length = f->length - rest + (size_t)(at - f->bytes);
+    if (from == 0 && to == f->records)
+        f->record = are_pq ? PT_BYTES : PQ_BYTES;
+}
+
+/* The PQ form of a point file that a reader accepts, until the next. */
+static const uint8_t *pq_form(const uint8_t *bytes, size_t points)
+{
+    static uint8_t *form;
+    const uint8_t *record = bytes + HEADER_BYTES;
+    const int are_pq = points > 0 && record[1] == 'Q';
+    uint8_t *to = copy_to(&form, bytes, HEADER_BYTES) + HEADER_BYTES;
+    size_t i;
+
+    for (i = 0; i < points; i++, record += are_pq ? PQ_BYTES : PT_BYTES)
+        to = put_record(to, record, are_pq, 1);
+    return form;
 }
 
 /* ---- fields ---- */
@@ -48,8 +107,9 @@ static field some_point_field(generator *g, const file *f)
     const field fields[] = {
         { 2, 1 }, { 3, 1 }, { 4, 1 }, { 5, 1 }, { 6, 2 },               /* m0, n0, h, the zero byte, p */
         { point + 2, 2 }, { point + 4, 2 }, { point + 6, 8 },           /* x, y, z */
+        { point + PT_BYTES, 1 },                                        /* q */
     };
-    return fields[below(g, COUNT(fields))];
+    return fields[below(g, COUNT(fields) - (f->record == PT_BYTES))];
 }
 
 static uint64_t get_field(const file *f, field at)
@@ -118,12 +178,26 @@ static void damage_mark(generator *g, file *f)
         f->bytes[start + below(g, 2)] ^= (uint8_t)(1u << below(g, 8));
 }
 
+/* Makes a record one of the other kind, or all from it on, in the bytes that it takes; or puts the other mark before it alone. */
+static void mix_kinds(generator *g, file *f)
+{
+    const size_t from = f->records == 0 ? 0 : below(g, f->records);
+
+    if (f->reader == READ_LATTICE || f->records == 0 || f->length < record_start(f, f->records)
+        || f->length + f->records > capacity[BYTES])
+        damage_mark(g, f);
+    else if (once_in(g, 3))
+        f->bytes[record_start(f, from) + 1] ^= 'T' ^ 'Q';
+    else
+        change_kind(f, from, once_in(g, 2) ? from + 1 : f->records);
+}
+
 static void cut(generator *g, file *f)
 {
     size_t length = once_in(g, 2) ? some_boundary(g, f) : below(g, f->length + 1);
 
-    if (once_in(g, 4))                          /* beside a boundary */
-        length += once_in(g, 2) ? 1 : (size_t)(length > 0 ? -1 : 0);
+    if (once_in(g, 4))                          /* beside a boundary, or in a point's record */
+        length += once_in(g, 3) ? below(g, PQ_BYTES) : once_in(g, 2) ? 1 : (size_t)(length > 0 ? -1 : 0);
     if (length < f->length)
         f->length = length;
 }
@@ -179,7 +253,7 @@ static void replace_all(generator *g, file *f)
 static void some_damage(generator *g, file *f)
 {
     static void (*const kinds[])(generator *g, file *f) = {
-        damage_field, damage_field, damage_field, damage_mark, damage_mark, cut, cut,
+        damage_field, damage_field, damage_field, damage_mark, damage_mark, mix_kinds, mix_kinds, cut, cut,
         drop_record, double_record, append, damage_bytes, replace_all,
     };
     kinds[below(g, COUNT(kinds))](g, f);
@@ -190,7 +264,7 @@ static void some_damage(generator *g, file *f)
 static file written(const draft *writer, answer a)
 {
     const size_t *v = writer->call.number;
-    file f = { READ_POINTS, writer->call.slice[BYTES].at, (size_t)a.field[FIRST], 8, 14, writer->exact[Z],
+    file f = { READ_POINTS, writer->call.slice[BYTES].at, (size_t)a.field[FIRST], HEADER_BYTES, PQ_BYTES, writer->exact[Z],
                writer->far_x, writer->far_y };
 
     if (writer->call.function == WRITE_LATTICE) {
@@ -212,7 +286,7 @@ static draft reading(generator *g, const file *f)
     if (f->reader == READ_LATTICE)
         lend(g, &d, VALUES, (f->record - 4) / 8 * f->records);
     else
-        for (r = X; r <= Z; r++)
+        for (r = X; r <= Q; r++)
             lend(g, &d, r, f->records);
     return d;
 }
@@ -221,23 +295,63 @@ static draft reading(generator *g, const file *f)
 static const uint8_t *keep(const uint8_t *bytes, size_t length)
 {
     static uint8_t *kept;
-
-    if (kept == NULL)
-        kept = room(capacity[BYTES], 1);
-    memcpy(kept, bytes, length);
-    return kept;
+    return copy_to(&kept, bytes, length);
 }
 
-/* What was read, written again, must be the file that was read. */
-static void write_again(draft *writer, const draft *reader, const uint8_t *file_bytes, size_t length)
+/* What was read of a lattice file, written again, must be the file that was read. */
+static void lattice_again(draft *writer, const draft *reader, const uint8_t *file_bytes, size_t length)
 {
     call *c = &writer->call;
 
-    if (c->function == WRITE_LATTICE)
-        memcpy(c->slice[LATTICE].at, reader->call.slice[VALUES].at, reader->exact[VALUES] * sizeof(int64_t));
+    memcpy(c->slice[LATTICE].at, reader->call.slice[VALUES].at, reader->exact[VALUES] * sizeof(int64_t));
     trial(c);
     if (memcmp(c->slice[BYTES].at, file_bytes, length) != 0)
         trial_failed(c, "written again, the file is another");
+}
+
+/* Reads the file that was just written, its PQ form: answer and lists must be those that the first file gave. */
+static void read_form(generator *g, const file *form, answer first)
+{
+    static uint8_t *before[SLICES];
+    draft reader;
+    answer second;
+    role r;
+
+    for (r = X; r <= Q; r++) {
+        if (before[r] == NULL)
+            before[r] = room(capacity[r], element_size[r]);
+        memcpy(before[r], new_draft(READ_POINTS).call.slice[r].at, form->records * element_size[r]);
+    }
+    reader = reading(g, form);
+    second = trial(&reader.call);
+    if (memcmp(&first, &second, sizeof first) != 0)
+        trial_failed(&reader.call, "a point file and its PQ form have two answers");
+    for (r = X; r <= Q; r++)
+        if (memcmp(before[r], reader.call.slice[r].at, form->records * element_size[r]) != 0)
+            trial_failed(&reader.call, "a point file and its PQ form have two lists of points");
+}
+
+/* What was read of a point file, written again, must be the file's PQ form, and that must be read alike. */
+static void points_again(generator *g, answer header, const uint8_t *file_bytes)
+{
+    const size_t points = (size_t)header.field[FIELDS - 1], length = HEADER_BYTES + PQ_BYTES * points;
+    const uint8_t *form = pq_form(file_bytes, points);
+    draft writer = new_draft(WRITE_POINTS);
+    file f;
+    answer a;
+    role r;
+
+    writer.call.number[M] = (size_t)header.field[FIRST];
+    writer.call.number[N] = (size_t)header.field[SECOND];
+    writer.call.number[H] = (size_t)header.field[SECOND + 1];
+    for (r = X; r <= Q; r++)                    /* the reader has left them there */
+        writer.exact[r] = writer.call.slice[r].length = points;
+    lend(g, &writer, BYTES, length);
+    a = trial(&writer.call);
+    if (a.field[NUMBER] != 0 || a.field[FIRST] != length || memcmp(writer.call.slice[BYTES].at, form, length) != 0)
+        trial_failed(&writer.call, "written again, the file is not its PQ form");
+    f = written(&writer, a);
+    read_form(g, &f, header);
 }
 
 static void file_case(generator *g, draft *writer)
@@ -245,6 +359,7 @@ static void file_case(generator *g, draft *writer)
     const answer a = trial(&writer->call);
     const uint8_t *kept;
     draft reader;
+    answer read;
     file f;
     int damaged;
     size_t damages;
@@ -252,17 +367,22 @@ static void file_case(generator *g, draft *writer)
     if (a.field[NUMBER] != 0)
         return;
     f = written(writer, a);
+    if (f.reader == READ_POINTS && once_in(g, 2))
+        change_kind(&f, 0, f.records);
     damages = once_in(g, 4) ? 0 : once_in(g, 2) ? 1 : 2 + below(g, 3);
     damaged = damages > 0;
     while (damages-- > 0)
         some_damage(g, &f);
-    kept = damaged ? NULL : keep(f.bytes, f.length);
+    kept = keep(f.bytes, f.length);
 
     reader = reading(g, &f);
     if (once_in(g, 4))
         shorten(g, &reader, some_role(g, shapes[f.reader].written));
-    if (trial(&reader.call).field[NUMBER] == 0 && !damaged)
-        write_again(writer, &reader, kept, f.length);
+    read = trial(&reader.call);
+    if (read.field[NUMBER] == 0 && f.reader == READ_POINTS)
+        points_again(g, read, kept);
+    else if (read.field[NUMBER] == 0 && !damaged)
+        lattice_again(writer, &reader, kept, f.length);
 }
 
 void lattice_file_case(generator *g, size_class size)
@@ -305,35 +425,56 @@ static void read_changed(generator *g, const file *f, const uint8_t *kept, size_
     trial(&d.call);
 }
 
-static void every_damage_of(generator *g, draft *writer, int few_values)
+static void every_damage_of(generator *g, const file *f, int few_values)
 {
-    const answer a = trial(&writer->call);
-    const file f = written(writer, a);
-    const uint8_t *kept = keep(f.bytes, f.length);
+    const uint8_t *kept = keep(f->bytes, f->length);
     size_t length, at;
     unsigned value;
 
-    for (length = 0; length <= f.length; length++)
-        read_changed(g, &f, kept, length, length, 0);
-    for (at = 0; at < f.length; at++)
+    for (length = 0; length <= f->length; length++)
+        read_changed(g, f, kept, length, length, 0);
+    for (at = 0; at < f->length; at++)
         for (value = 0; value < 256; value += few_values ? 51 : 1)
-            read_changed(g, &f, kept, f.length, at, value);
+            read_changed(g, f, kept, f->length, at, value);
+}
+
+/* Three records, each a PQ or a PT as its bit says: all files of one kind, and all that are mixed. */
+static void every_kind_of(generator *g, const file *of_pq, int few_values)
+{
+    static uint8_t *memory;
+    const uint8_t *copy = copy_to(&memory, of_pq->bytes, of_pq->length);
+    unsigned kinds;
+    size_t i;
+
+    for (kinds = 0; kinds < 1u << of_pq->records; kinds++) {
+        file f = *of_pq;
+        uint8_t *to = f.bytes + f.header;
+
+        memcpy(f.bytes, copy, f.length);
+        for (i = 0; i < f.records; i++)
+            to = put_record(to, copy + record_start(&f, i), 1, (kinds >> i & 1) == 0);
+        f.length = (size_t)(to - f.bytes);
+        every_damage_of(g, &f, few_values);
+    }
 }
 
 void every_file_damage(int few_values)
 {
     generator g = { 1 };
     draft lattice = new_draft(WRITE_LATTICE), points = new_draft(WRITE_POINTS);
+    file f;
 
     trial_name("every damage of a small lattice file", 1);
     lattice.call.number[M] = lattice.call.number[N] = 1;
     some_lattice(&g, &lattice);
     lend(&g, &lattice, BYTES, CURLEW_LATTICE_FILE(1, 1));
-    every_damage_of(&g, &lattice, few_values);
+    f = written(&lattice, trial(&lattice.call));
+    every_damage_of(&g, &f, few_values);
 
-    trial_name("every damage of a small point file", 1);
+    trial_name("every damage of a small point file of either kind, or of both", 1);
     points.call.number[M] = points.call.number[N] = points.call.number[H] = 1;
     some_points(&g, &points, 3);
     lend(&g, &points, BYTES, CURLEW_POINT_FILE(3));
-    every_damage_of(&g, &points, few_values);
+    f = written(&points, trial(&points.call));
+    every_kind_of(&g, &f, few_values);
 }

@@ -266,11 +266,35 @@ static void some_heights(generator *g, draft *d, size_t points)
         z[below(g, points)] = constant;
 }
 
-/* The three lists, so many points each: a call takes their length for the points. */
+/* How a whole list of confidences is made. */
+typedef enum { ALL_ONE, ALL_ALIKE, AT_ENDS, OF_ANY, MOSTLY_ONE, TRUSTS } trust;
+
+/* 1 to 255, the ends and their neighbours more often. */
+static uint8_t some_confidence(generator *g, trust how)
+{
+    static const uint8_t ends[] = { 1, 2, 254, 255 };
+
+    if (how == ALL_ONE || (how == MOSTLY_ONE && !once_in(g, 8)))
+        return 1;
+    return how == AT_ENDS || once_in(g, 4) ? ends[below(g, COUNT(ends))] : (uint8_t)(1 + below(g, 255));
+}
+
+static void some_confidences(generator *g, draft *d, size_t points)
+{
+    const trust how = (trust)below(g, TRUSTS);
+    const uint8_t alike = some_confidence(g, how);
+    uint8_t *q = d->call.slice[Q].at;
+    size_t at;
+
+    for (at = 0; at < points; at++)
+        q[at] = how == ALL_ALIKE ? alike : some_confidence(g, how);
+}
+
+/* The four lists, so many points each: a call takes their length for the points. */
 static void set_points(draft *d, size_t points)
 {
     role r;
-    for (r = X; r <= Z; r++)
+    for (r = X; r <= Q; r++)
         d->exact[r] = d->call.slice[r].length = points;
 }
 
@@ -280,6 +304,7 @@ void some_points(generator *g, draft *d, size_t points)
     set_points(d, points);
     some_positions(g, d, points);
     some_heights(g, d, points);
+    some_confidences(g, d, points);
 }
 
 /* ---- troubles ---- */
@@ -394,31 +419,87 @@ void some_trouble(generator *g, draft *d)
 /* Makes the lists differ in length, or gives them one point too many. */
 static void mismatch(generator *g, draft *d)
 {
-    const role one = (role)(X + below(g, 3));
+    const role one = (role)(X + below(g, 4));
     role r;
 
     if (!once_in(g, 40))
         d->call.slice[one].length = once_in(g, 3) ? 0 : d->exact[one] == 0 || once_in(g, 2) ? d->exact[one] + 1
                                                                                            : d->exact[one] - 1;
     else
-        for (r = X; r <= Z; r++)
+        for (r = X; r <= Q; r++)
             d->call.slice[r].length = 65536;
 }
 
 /* Moves a point outside: one past the far edge, or further. */
-static void move_outside(generator *g, draft *d)
+static void move_outside(generator *g, draft *d, size_t point)
 {
     const int along_x = once_in(g, 2);
-    const size_t points = d->exact[X], far = along_x ? d->far_x : d->far_y;
+    const size_t far = along_x ? d->far_x : d->far_y;
     uint16_t *list = d->call.slice[along_x ? X : Y].at;
 
-    if (points > 0)
-        list[below(g, points)] = (uint16_t)(once_in(g, 3) ? 65535 : far + 1 + below(g, 3));
+    list[point] = (uint16_t)(once_in(g, 3) ? 65535 : far + 1 + below(g, 3));
+}
+
+/* Gives a point a confidence of 0, or a few: the first of them counts. */
+static void distrust(generator *g, draft *d)
+{
+    size_t offenders = once_in(g, 3) ? 1 + below(g, 4) : 1;
+    uint8_t *q = d->call.slice[Q].at;
+
+    while (offenders-- > 0)
+        q[some_index(g, d->exact[Q])] = 0;
+}
+
+/* Gives one point two of the three faults that it can have: their order in a point shows. */
+static void spoil_point(generator *g, draft *d)
+{
+    const size_t point = some_index(g, d->exact[Z]);
+    const role without = (role)(Y + below(g, 3));
+
+    if (without != Y)
+        move_outside(g, d, point);
+    if (without != Z)
+        ((int64_t *)d->call.slice[Z].at)[point] = wrong_value(g);
+    if (without != Q)
+        ((uint8_t *)d->call.slice[Q].at)[point] = 0;
+}
+
+/*
+ * The ends of the range, one high and the others low: of three points or more the first one's difference from the base is out of
+ * range.
+ */
+static void split_heights(draft *d)
+{
+    int64_t *z = d->call.slice[Z].at;
+    size_t at;
+
+    for (at = 0; at < d->exact[Z]; at++)
+        z[at] = at == 0 ? LIMIT : -LIMIT;
+}
+
+/* A trouble that needs a point. */
+static void point_trouble(generator *g, draft *d)
+{
+    switch (below(g, 5)) {
+    case 0:
+    case 1:
+        move_outside(g, d, below(g, d->exact[X]));
+        break;
+    case 2:
+        distrust(g, d);
+        break;
+    case 3:
+        spoil_point(g, d);
+        break;
+    default:
+        split_heights(d);
+        break;
+    }
 }
 
 void points_trouble(generator *g, draft *d)
 {
-    switch (below(g, 5)) {
+    switch (below(g, 6)) {
     case 0:
         d->call.number[H] = wrong_level(g);
         break;
@@ -426,7 +507,9 @@ void points_trouble(generator *g, draft *d)
         mismatch(g, d);
         break;
     case 2:
-        move_outside(g, d);
+    case 3:
+        if (d->exact[Z] > 0)
+            point_trouble(g, d);
         break;
     default:
         some_trouble(g, d);

@@ -41,7 +41,7 @@ void some_lattice(generator *g, draft *d);
 /* Lends a raster of the draft's columns and rows in range; its tail is noise too. */
 void some_raster(generator *g, draft *d);
 
-/* Lends lists of so many points of the draft's grid in range: on grid lines, at edges, at equal positions too. */
+/* Lends lists of so many points of the draft's grid in range: on grid lines, at edges, at equal positions too; of any confidence. */
 void some_points(generator *g, draft *d, size_t points);
 
 /* Settles the far edges from the draft's numbers; some_points does so too. */
@@ -55,7 +55,7 @@ size_t wrong_number(generator *g, size_t valid);
 /* One trouble that any call may have: cell counts, a value out of range, a slice too short. */
 void some_trouble(generator *g, draft *d);
 
-/* One trouble of a call with point lists: the above, h, the lists' lengths, a position outside. */
+/* One trouble of a call with point lists: the above, h, the lists' lengths, a position outside, a confidence of 0, a wide spread. */
 void points_trouble(generator *g, draft *d);
 
 size_t wrong_unit(generator *g);

@@ -29,6 +29,7 @@ const size_t capacity[SLICES] = {
     [X] = 65535 + SPARE,
     [Y] = 65535 + SPARE,
     [Z] = 65535 + SPARE,
+    [Q] = 65535 + SPARE,
     [LATTICE] = CURLEW_CONTROLS(512, 512) + SPARE,
     [RESIDUAL] = 65535 + SPARE,
     [WHOLE] = CURLEW_FIT_WHOLE(16, 16, 5, 65535) + SPARE,
@@ -64,6 +65,8 @@ static void print_element(role r, const void *values, size_t at)
         printf(" %u", (unsigned)((const uint16_t *)values)[at]);
     else if (r == FLOATS)
         printf(" %a", ((const double *)values)[at]);
+    else if (r == Q)
+        printf(" %u", (unsigned)((const uint8_t *)values)[at]);
     else if (r == BYTES)
         printf(" %02x", (unsigned)((const uint8_t *)values)[at]);
     else
@@ -212,7 +215,7 @@ static int untouched(const unsigned char *guard, size_t bytes)
 
 /* ---- what the header says, whatever the reference does ---- */
 
-/* How many elements, from the first, a fit with this answer may change: after 7, 13 and 14 only scratch. */
+/* How many elements, from the first, a fit with this answer may change: after 7, 13 and 14 only scratch, after others nothing. */
 static size_t fit_may_change(const call *c, uint64_t number, role r)
 {
     const size_t *v = c->number, points = c->slice[Z].length;
@@ -273,6 +276,27 @@ static int slopes_hold(const call *c, answer a)
 
     return ref_slope_holds(v[UNIT], (int64_t)a.field[FIRST], along_x)
            && ref_slope_holds(v[UNIT], (int64_t)a.field[SECOND], along_y);
+}
+
+/* Whether so many first points of the call's lists have a confidence that is not 0. */
+static int all_trusted(const call *c, size_t points)
+{
+    return c->slice[Q].length >= points && (points == 0 || memchr(c->slice[Q].at, 0, points) == NULL);
+}
+
+/*
+ * A confidence of 0 is refused by 17 with the first such point. No such point comes before one that is refused by 5 or 6, and there
+ * is none at all where a call is accepted, or refused for a difference or in a level.
+ */
+static int confidences_hold(const call *c, answer a)
+{
+    const uint64_t number = a.field[NUMBER], place = a.field[PLACE];
+
+    if (number == NO_CONFIDENCE)
+        return all_trusted(c, (size_t)place) && !all_trusted(c, (size_t)place + 1);
+    if (number == 5 || number == 6)
+        return all_trusted(c, (size_t)place);
+    return (number != 0 && number != DIFFERENCE_OUT && !in_levels(number)) || all_trusted(c, c->slice[Q].length);
 }
 
 /* ---- the comparison ---- */
@@ -343,6 +367,9 @@ static void compare_answers(const call *c, answer library, answer reference)
         trial_failed(c, "a refusal with values, or an acceptance with a place");
     if (c->function == SLOPE_AT && library.field[NUMBER] == 0 && !slopes_hold(c, library))
         trial_failed(c, "a slope too far from the exact surface's");
+    if ((c->function == FIT || c->function == WRITE_POINTS) ? !confidences_hold(c, library)
+                                                            : library.field[NUMBER] == NO_CONFIDENCE)
+        trial_failed(c, "a confidence of 0 that is passed over, or named where none is");
 }
 
 /* The call with slices of the side's own, laid out like the other side's. */

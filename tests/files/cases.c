@@ -4,14 +4,15 @@
  * Prints one line a case: its name, the number and the place, the other fields of the answer, and for each output slice
  * the FNV-1a checksum of its memory whole, on a little-endian machine. expected.txt has the lines that are due.
  *
- * Each case also names the number and the place that document 01 gives, worked out by hand, and knows what an accepted
+ * Each case also names the number and the place that documents 01 and 02 give, worked out by hand, and knows what an accepted
  * call writes: the files are encoded and the values chosen here, not taken from the library. A line that breaks
  * either ends in "WRONG", and the exit status is then 1.
  *
  * The places of the small lattice file, 1 by 1: head at 0 (6 bytes: mark, m at 2, n at 4), rows at 6, 42, 78 and 114
  * (36 bytes each: mark, row number, 4 values), end at 150 (4 bytes: mark, count at 152), 154 bytes.
- * The places of the small point file, 3 points: head at 0 (8 bytes: mark, m0 at 2, n0 at 3, h at 4, the zero byte at 5,
- * p at 6), points at 8, 22 and 36 (14 bytes each: mark, x, y, z), 50 bytes.
+ * The places of the small point files, 3 points: head at 0 (8 bytes: mark, m0 at 2, n0 at 3, h at 4, the zero byte at 5,
+ * p at 6), points at 8, 22 and 36 (14 bytes each: mark, x, y, z), 50 bytes; of PQ points at 8, 23 and 38 (15 bytes each, q the last),
+ * 53 bytes. The point reader is tried on both kinds; the writer writes PQ points.
  */
 #include "../../include/curlewtable.h"
 
@@ -32,6 +33,11 @@ static size_t file_len;
 static size_t m, n, m0, n0, h, points;
 static int64_t values[CURLEW_CONTROLS(MOST_CELLS, MOST_CELLS)], z[MOST_POINTS + 1];
 static uint16_t x[MOST_POINTS + 1], y[MOST_POINTS + 1];
+static uint8_t q[MOST_POINTS + 1];
+
+/* the bytes of a point's record, which say the file's kind */
+enum { PT = 14, PQ = 15 };
+static size_t record = PT;
 
 static int any_wrong;
 
@@ -63,7 +69,7 @@ static size_t value_at(size_t place)
 
 static size_t point_at(size_t index)
 {
-    return 8 + 14 * index;
+    return 8 + record * index;
 }
 
 static void set_value(size_t place, int64_t value)
@@ -88,6 +94,14 @@ static void set_z(size_t index, int64_t value)
 {
     z[index] = value;
     put(point_at(index) + 6, 8, (uint64_t)value);
+}
+
+/* A PT point has no q of its own, and reads as 1. */
+static void set_q(size_t index, uint8_t value)
+{
+    q[index] = value;
+    if (record == PQ)
+        put(point_at(index) + 14, 1, value);
 }
 
 /* A height in range, another for every index. */
@@ -117,7 +131,7 @@ static void new_lattice(size_t cells_x, size_t cells_y)
     file_len = row_at(n + 3) + 4;
 }
 
-/* Begins a point file of this head, with some points at positions up to 16, which every head allows. */
+/* Begins a point file of this head and of the kind set, with some points at positions up to 16, which every head allows. */
 static void new_points(size_t cells_x, size_t cells_y, size_t levels, size_t count)
 {
     size_t k;
@@ -133,10 +147,11 @@ static void new_points(size_t cells_x, size_t cells_y, size_t levels, size_t cou
     put(5, 1, 0);
     put(6, 2, points);
     for (k = 0; k < points; k++) {
-        put_mark(point_at(k), "PT");
+        put_mark(point_at(k), record == PQ ? "PQ" : "PT");
         set_x(k, (uint16_t)(k * 5 % 17));
         set_y(k, (uint16_t)(k * 7 % 17));
         set_z(k, some_height(k));
+        set_q(k, (uint8_t)(record == PQ ? 1 + k * 37 % 255 : 1));
     }
     file_len = point_at(points);
 }
@@ -251,18 +266,38 @@ static void lattice_reader(const char *what, size_t which, size_t number, size_t
     free(copy);
 }
 
-/* Reads the file as points into lists of these lengths. */
-static void point_reader(const char *what, size_t which, size_t number, size_t place, size_t x_len, size_t y_len, size_t z_len)
-{
-    output lent[3] = { lend(2, x_len, x, points), lend(2, y_len, y, points), lend(8, z_len, z, points) };
-    uint8_t *copy = copy_file();
-    curlew_header got = curlew_read_points(copy, file_len, (uint16_t *)(void *)lent[0].memory, x_len,
-                                           (uint16_t *)(void *)lent[1].memory, y_len, (int64_t *)(void *)lent[2].memory, z_len);
-    fields answer = { { got.number, got.place, got.m0, got.n0, got.h, got.points } };
-    fields due = { { number, place, m0, n0, h, points } };
+/* The lengths that a point reader or writer is lent. */
+typedef struct {
+    size_t x, y, z, q, bytes;
+} lengths;
 
-    report("point reader", what, which, answer, due, 6, lent, 3);
+static lengths of_points(size_t count, size_t bytes)
+{
+    lengths len = { count, count, count, count, bytes };
+
+    return len;
+}
+
+/* Reads a copy of the file as points into the four outputs. */
+static fields read_into(output lent[4])
+{
+    uint8_t *copy = copy_file();
+    curlew_header got = curlew_read_points(copy, file_len, (uint16_t *)(void *)lent[0].memory, lent[0].count,
+                                           (uint16_t *)(void *)lent[1].memory, lent[1].count,
+                                           (int64_t *)(void *)lent[2].memory, lent[2].count, lent[3].memory, lent[3].count);
+    fields answer = { { got.number, got.place, got.m0, got.n0, got.h, got.points } };
+
     free(copy);
+    return answer;
+}
+
+/* Reads the file as points into lists of these lengths. */
+static void point_reader(const char *what, size_t which, size_t number, size_t place, lengths len)
+{
+    output lent[4] = { lend(2, len.x, x, points), lend(2, len.y, y, points), lend(8, len.z, z, points), lend(1, len.q, q, points) };
+    fields answer = read_into(lent), due = { { number, place, m0, n0, h, points } };
+
+    report(record == PQ ? "PQ reader" : "PT reader", what, which, answer, due, 6, lent, 4);
 }
 
 /* Writes the first places of the values as a lattice of these cells into an output of some bytes. */
@@ -276,32 +311,21 @@ static void lattice_writer(const char *what, size_t which, size_t number, size_t
     report("lattice writer", what, which, answer, due, 3, &lent, 1);
 }
 
-/* The lengths that a point writer is lent. */
-typedef struct {
-    size_t x, y, z, bytes;
-} lengths;
-
 /* Writes the points with the head m0, n0, h. */
 static void point_writer(const char *what, size_t which, size_t number, size_t place, lengths len)
 {
     output lent = lend(1, len.bytes, file, file_len);
-    curlew_count got = curlew_write_points(m0, n0, h, x, len.x, y, len.y, z, len.z, lent.memory, len.bytes);
+    curlew_count got = curlew_write_points(m0, n0, h, x, len.x, y, len.y, z, len.z, q, len.q, lent.memory, len.bytes);
     fields answer = { { got.number, got.place, got.count } }, due = { { number, place, file_len } };
 
     report("point writer", what, which, answer, due, 3, &lent, 1);
 }
 
-static lengths of_points(size_t count, size_t bytes)
-{
-    lengths len = { count, count, count, bytes };
-
-    return len;
-}
-
 /* ---- what both readers are tried on */
 
 static const size_t lattice_record[] = { 0, 6, 42, 78, 114, 150, 154 };
-static const size_t point_record[] = { 0, 8, 22, 36, 50 };
+static const size_t pt_record[] = { 0, 8, 22, 36, 50 };
+static const size_t pq_record[] = { 0, 8, 23, 38, 53 };
 
 /* The small files, into slices one longer than they need, or of just that. */
 static void small_lattice_reader(const char *what, size_t which, size_t number, size_t place)
@@ -311,7 +335,9 @@ static void small_lattice_reader(const char *what, size_t which, size_t number, 
 
 static void small_point_reader(const char *what, size_t which, size_t number, size_t place)
 {
-    point_reader(what, which, number, place, 3, 4, 3);
+    static const lengths len = { 3, 4, 3, 5, 0 };
+
+    point_reader(what, which, number, place, len);
 }
 
 /* How a kind of file is begun and read, and where its records start; the last start is the file's length. */
@@ -323,7 +349,8 @@ typedef struct {
 } kind;
 
 static const kind lattice_kind = { small_lattice, small_lattice_reader, lattice_record, 6 };
-static const kind point_kind = { small_points, small_point_reader, point_record, 4 };
+static const kind pt_kind = { small_points, small_point_reader, pt_record, 4 };
+static const kind pq_kind = { small_points, small_point_reader, pq_record, 4 };
 
 /* A file that ends in a record, or before one that is due: 9 at that record's start, whatever of it is there. */
 static void cut_files(const kind *k)
@@ -360,7 +387,7 @@ static void damaged_marks(const kind *k)
 
 static void trailing_bytes(const kind *k)
 {
-    static const size_t count[] = { 1, 2, 14, 36, 1000 };
+    static const size_t count[] = { 1, 2, 14, 15, 36, 1000 };
     size_t i;
 
     for (i = 0; i < COUNT(count); i++) {
@@ -587,36 +614,168 @@ static void point_counts(void)
 {
     small_points();
     put(6, 2, 2);
-    small_point_reader("p one too few, p", 2, 12, 36);
+    small_point_reader("p one too few, p", 2, 12, point_at(2));
     put(6, 2, 4);
-    small_point_reader("p one too many, p", 4, 9, 50);
+    small_point_reader("p one too many, p", 4, 9, point_at(3));
     put(6, 2, 0);
     small_point_reader("p none of three, p", 0, 12, 8);
     put(6, 2, 65535);
-    small_point_reader("p all of three, p", 65535, 9, 50);
+    small_point_reader("p all of three, p", 65535, 9, point_at(3));
     set_z(0, HIGHEST + 1);
     small_point_reader("z out of range before the cut, p", 65535, 11, 14);
     new_points(1, 1, 0, 0);
-    point_reader("p", 0, 0, 0, 0, 0, 0);
-    point_reader("p 0, lists of", 2, 0, 0, 2, 2, 2);
+    point_reader("p", 0, 0, 0, of_points(0, 0));
+    point_reader("p 0, lists of", 2, 0, 0, of_points(2, 0));
+}
+
+static void most_points(void)
+{
+    lengths len = of_points(MOST_POINTS, 0);
+
     new_points(16, 16, 5, MOST_POINTS);
-    point_reader("p", points, 0, 0, points, points, points + 1);
-    point_reader("p 65535, z list of", points - 1, 4, 0, points, points, points - 1);
+    len.z++;
+    point_reader("p", points, 0, 0, len);
+    len.z -= 2;
+    point_reader("p 65535, z list of", len.z, 4, 0, len);
+    len.z = points;
+    len.q--;
+    point_reader("p 65535, q list of", len.q, 4, 0, len);
 }
 
 static void point_outputs(void)
 {
+    static const lengths shorter[] = { { 2, 3, 3, 3, 0 }, { 3, 2, 3, 3, 0 }, { 3, 3, 2, 3, 0 }, { 3, 3, 3, 2, 0 } };
+    static const char *const what[] = { "x list of", "y list of", "z list of", "q list of" };
+    size_t k;
+
     small_points();
-    point_reader("x list of", 2, 4, 0, 2, 3, 3);
-    point_reader("y list of", 2, 4, 0, 3, 2, 3);
-    point_reader("z list of", 2, 4, 0, 3, 3, 2);
-    point_reader("lists of", 0, 4, 0, 0, 0, 0);
-    point_reader("lists of", 3, 0, 0, 3, 3, 3);
-    point_reader("lists of", 9, 0, 0, 9, 9, 9);
+    for (k = 0; k < COUNT(shorter); k++)
+        point_reader(what[k], 2, 4, 0, shorter[k]);
+    point_reader("lists of", 0, 4, 0, of_points(0, 0));
+    point_reader("lists of", 3, 0, 0, of_points(3, 0));
+    point_reader("lists of", 9, 0, 0, of_points(9, 0));
     add_trailing(1);
-    point_reader("trailing byte and lists of", 2, 12, 50, 2, 2, 2);
-    file_len = 49;
-    point_reader("cut and lists of", 0, 9, 36, 0, 0, 0);
+    point_reader("trailing byte and lists of", 2, 12, point_at(3), of_points(2, 0));
+    file_len = point_at(3) - 1;
+    point_reader("cut and lists of", 0, 9, point_at(2), of_points(0, 0));
+}
+
+/* ---- the two kinds of point record */
+
+/*
+ * A first record of this mark with so many bytes left. Under 14 it is 9 before its mark is read; with 14 a PT is whole, a PQ is 9 and
+ * any other mark 10; with 15 a PT has a byte after it, at 22. The byte of q is 1, which no PT has.
+ */
+static void first_records(void)
+{
+    static const struct { const char *what, *mark; size_t bytes, left, number, place; } first[] = {
+        { "first PT, bytes left", "PT", PT, 13, 9, 8 }, { "first PT, bytes left", "PT", PT, 14, 0, 0 },
+        { "first PT, bytes left", "PT", PT, 15, 12, 22 }, { "first PQ, bytes left", "PQ", PQ, 13, 9, 8 },
+        { "first PQ, bytes left", "PQ", PQ, 14, 9, 8 }, { "first PQ, bytes left", "PQ", PQ, 15, 0, 0 },
+        { "first PQ, bytes left", "PQ", PQ, 16, 12, 23 }, { "first XX, bytes left", "XX", PT, 13, 9, 8 },
+        { "first XX, bytes left", "XX", PT, 14, 10, 8 }, { "first XX, bytes left", "XX", PT, 15, 10, 8 },
+        { "first QP, bytes left", "QP", PT, 15, 10, 8 }, { "first PT, bytes left", "PT", PT, 0, 9, 8 },
+        { "first PQ, bytes left", "PQ", PQ, 1, 9, 8 }, { "first PQ, bytes left", "PQ", PQ, 2, 9, 8 },
+    };
+    size_t k;
+
+    for (k = 0; k < COUNT(first); k++) {
+        record = first[k].bytes;
+        new_points(2, 3, 1, 1);
+        put_mark(8, first[k].mark);
+        put(22, 2, 1);
+        file_len = 8 + first[k].left;
+        point_reader(first[k].what, first[k].left, first[k].number, first[k].place, of_points(1, 0));
+    }
+}
+
+/*
+ * The last of three records has another mark, and so many bytes are left of it. It is measured by the kind that the first has set,
+ * before its mark is read: in a PT file, where it is at 36, from 14 bytes on it is 10; in a PQ file, at 38, from 15 on.
+ */
+static void later_records(void)
+{
+    static const struct { const char *what, *mark; size_t bytes, left, number, place; } later[] = {
+        { "PQ after PT, bytes left", "PQ", PT, 13, 9, 36 }, { "PQ after PT, bytes left", "PQ", PT, 14, 10, 36 },
+        { "PQ after PT, bytes left", "PQ", PT, 15, 10, 36 }, { "XX after PT, bytes left", "XX", PT, 13, 9, 36 },
+        { "XX after PT, bytes left", "XX", PT, 14, 10, 36 }, { "PT after PT, bytes left", "PT", PT, 14, 0, 0 },
+        { "PT after PQ, bytes left", "PT", PQ, 13, 9, 38 }, { "PT after PQ, bytes left", "PT", PQ, 14, 9, 38 },
+        { "PT after PQ, bytes left", "PT", PQ, 15, 10, 38 }, { "XX after PQ, bytes left", "XX", PQ, 14, 9, 38 },
+        { "XX after PQ, bytes left", "XX", PQ, 15, 10, 38 }, { "PQ after PQ, bytes left", "PQ", PQ, 14, 9, 38 },
+        { "PQ after PQ, bytes left", "PQ", PQ, 15, 0, 0 },
+    };
+    size_t k;
+
+    for (k = 0; k < COUNT(later); k++) {
+        record = later[k].bytes;
+        small_points();
+        put_mark(point_at(2), later[k].mark);
+        if (record == PT)
+            put(point_at(3), 1, 1);
+        file_len = point_at(2) + later[k].left;
+        small_point_reader(later[k].what, later[k].left, later[k].number, later[k].place);
+    }
+}
+
+/* A record in the middle whose own length fits its mark: it is the first that differs, and is 10 though the next is of the kind. */
+static void mixed_kinds(void)
+{
+    record = PQ;
+    small_points();
+    put_mark(23, "PT");
+    memmove(file + 37, file + 38, 15);          /* without its q */
+    file_len = 52;
+    small_point_reader("a PT between two PQ, at", 23, 10, 23);
+    record = PT;
+    small_points();
+    put_mark(22, "PQ");
+    memmove(file + 37, file + 36, 14);
+    put(36, 1, 7);
+    file_len = 51;
+    small_point_reader("a PQ between two PT, at", 22, 10, 22);
+}
+
+/* The q of the points is at 22, 37 and 52, after the z at 14, 29 and 44. */
+static void point_confidences(void)
+{
+    static const uint8_t good[] = { 1, 2, 127, 128, 254, 255 };
+    size_t k, index;
+
+    record = PQ;
+    for (k = 0; k < COUNT(good); k++) {
+        small_points();
+        set_q(1, good[k]);
+        small_point_reader("q of point 1", good[k], 0, 0);
+    }
+    for (index = 0; index < 3; index++) {
+        small_points();
+        set_q(index, 0);
+        small_point_reader("q 0 at", index, 11, point_at(index) + 14);
+        set_z(index, -HIGHEST - 1);
+        small_point_reader("q 0 and z below the lowest at", index, 11, point_at(index) + 6);
+    }
+    small_points();
+    set_q(0, 0);
+    put_mark(23, "PT");
+    small_point_reader("q 0 before a PT at", 23, 11, 22);
+    set_q(0, 1);
+    set_q(2, 0);
+    small_point_reader("a PT before q 0, at", 23, 10, 23);
+}
+
+/* A file of no points is of no kind: whatever begins after its head is too much. */
+static void no_points(void)
+{
+    record = PQ;
+    new_points(2, 3, 1, 0);
+    put_mark(8, "PQ");
+    file_len = 9;
+    point_reader("no points, bytes after", 1, 12, 8, of_points(0, 0));
+    file_len = 23;
+    point_reader("no points, a PQ record after, bytes", 15, 12, 8, of_points(1, 0));
+    put_mark(8, "PT");
+    file_len = 22;
+    point_reader("no points, a PT record after, bytes", 14, 12, 8, of_points(1, 0));
 }
 
 /* ---- the lattice writer */
@@ -702,7 +861,7 @@ static void point_writer_head(const char *what, size_t cells_x, size_t cells_y, 
     put(2, 1, m0);
     put(3, 1, n0);
     put(4, 1, h);
-    point_writer(what, which, number, 0, of_points(3, 50));
+    point_writer(what, which, number, 0, of_points(3, 53));
 }
 
 static void point_writer_heads(void)
@@ -727,16 +886,19 @@ static void point_writer_heads(void)
 static void point_writer_lists(void)
 {
     static const struct { lengths len; size_t number; } lent[] = {
-        { { 2, 3, 3, 50 }, 3 }, { { 3, 2, 3, 50 }, 3 }, { { 3, 3, 2, 50 }, 3 }, { { 3, 2, 2, 0 }, 3 },
-        { { 3, 3, 3, 0 }, 4 }, { { 3, 3, 3, 49 }, 4 }, { { 3, 3, 3, 50 }, 0 }, { { 3, 3, 3, 90 }, 0 }
+        { { 2, 3, 3, 3, 53 }, 3 }, { { 3, 2, 3, 3, 53 }, 3 }, { { 3, 3, 2, 3, 53 }, 3 }, { { 3, 3, 3, 2, 53 }, 3 },
+        { { 3, 3, 3, 4, 53 }, 3 }, { { 3, 3, 3, 0, 0 }, 3 }, { { 3, 2, 2, 2, 0 }, 3 }, { { 3, 3, 3, 3, 0 }, 4 },
+        { { 3, 3, 3, 3, 50 }, 4 }, { { 3, 3, 3, 3, 52 }, 4 }, { { 3, 3, 3, 3, 53 }, 0 }, { { 3, 3, 3, 3, 93 }, 0 }
     };
     size_t k;
 
     small_points();
-    for (k = 0; k < COUNT(lent); k++)
-        point_writer("lengths of x, y, z and output",
-                     lent[k].len.x * 10000 + lent[k].len.y * 1000 + lent[k].len.z * 100 + lent[k].len.bytes,
-                     lent[k].number, 0, lent[k].len);
+    for (k = 0; k < COUNT(lent); k++) {
+        const lengths *len = &lent[k].len;
+
+        point_writer("lengths of x, y, z, q and output",
+                     len->x * 100000 + len->y * 10000 + len->z * 1000 + len->q * 100 + len->bytes, lent[k].number, 0, *len);
+    }
     h = 6;
     point_writer("lists differ and h", h, 2, 0, lent[0].len);
     new_points(1, 1, 0, 0);
@@ -748,15 +910,17 @@ static void point_writer_lists(void)
     point_writer("points", points + 1, 3, 0, of_points(points + 1, CURLEW_POINT_FILE(points + 1)));
 }
 
-/* One point of the three is changed; the place of 5 and 6 is its index. */
+/* One point of the three is changed; the place of 5, 6 and 17 is its index, and they are asked in this order. */
 static void point_writer_points(void)
 {
-    static const struct { const char *what; uint16_t x, y; int64_t z; size_t number; } point[] = {
-        { "x and y at the edge, point", 64, 96, 0, 0 }, { "x past the edge, point", 65, 0, 0, 5 },
-        { "y past the edge, point", 0, 97, 0, 5 }, { "largest x, point", 65535, 0, 0, 5 },
-        { "highest z, point", 0, 0, HIGHEST, 0 }, { "above the highest z, point", 0, 0, HIGHEST + 1, 6 },
-        { "lowest z, point", 0, 0, -HIGHEST, 0 }, { "below the lowest z, point", 0, 0, -HIGHEST - 1, 6 },
-        { "all past their ends, point", 65, 97, INT64_MIN, 5 }
+    static const struct { const char *what; uint16_t x, y; int64_t z; uint8_t q; size_t number; } point[] = {
+        { "x and y at the edge, point", 64, 96, 0, 1, 0 }, { "x past the edge, point", 65, 0, 0, 1, 5 },
+        { "y past the edge, point", 0, 97, 0, 1, 5 }, { "largest x, point", 65535, 0, 0, 1, 5 },
+        { "highest z, point", 0, 0, HIGHEST, 1, 0 }, { "above the highest z, point", 0, 0, HIGHEST + 1, 1, 6 },
+        { "lowest z, point", 0, 0, -HIGHEST, 1, 0 }, { "below the lowest z, point", 0, 0, -HIGHEST - 1, 1, 6 },
+        { "all past their ends, point", 65, 97, INT64_MIN, 0, 5 }, { "q 255, point", 0, 0, 0, 255, 0 },
+        { "q 0, point", 0, 0, 0, 0, 17 }, { "q 0 and y past the edge, point", 0, 97, 0, 0, 5 },
+        { "q 0 and below the lowest z, point", 0, 0, -HIGHEST - 1, 0, 6 }
     };
     size_t k, index;
 
@@ -766,24 +930,95 @@ static void point_writer_points(void)
             set_x(index, point[k].x);
             set_y(index, point[k].y);
             set_z(index, point[k].z);
-            point_writer(point[k].what, index, point[k].number, point[k].number == 0 ? 0 : index, of_points(3, 55));
+            set_q(index, point[k].q);
+            point_writer(point[k].what, index, point[k].number, point[k].number == 0 ? 0 : index, of_points(3, 58));
         }
 }
 
-/* Points go in list order, 5 before 6 only within a point; 4 comes before both. */
+/* Points go in list order, 5 before 6 before 17 only within a point; 4 comes before all. */
 static void point_writer_order(void)
 {
     small_points();
     z[1] = INT64_MAX;
     x[2] = 65;
-    point_writer("z of point 1 before x of point", 2, 6, 1, of_points(3, 50));
+    point_writer("z of point 1 before x of point", 2, 6, 1, of_points(3, 53));
+    q[0] = 0;
+    point_writer("q of point 0 before z of point", 1, 17, 0, of_points(3, 53));
     y[0] = 97;
-    point_writer("y of point 0 before z of point", 1, 5, 0, of_points(3, 50));
-    point_writer("y past the edge and output of", 49, 4, 0, of_points(3, 49));
+    point_writer("y of point 0 before z of point", 1, 5, 0, of_points(3, 53));
+    point_writer("y past the edge and output of", 52, 4, 0, of_points(3, 52));
     h = 5;
+    q[0] = 1;
     x[2] = 1025;
     z[1] = 0;
-    point_writer("x past the edge at h 5, x", 1025, 5, 2, of_points(3, 50));
+    point_writer("x past the edge at h 5, x", 1025, 5, 2, of_points(3, 53));
+    q[1] = q[2] = 0;
+    point_writer("q of point 1 before x of point", 2, 17, 1, of_points(3, 53));
+}
+
+/* ---- what was read, written again */
+
+/* Begins the PQ form of the file of this kind: the same points, and where they had no q a q of 1. */
+static void begin_form(size_t bytes, size_t count)
+{
+    size_t k;
+
+    record = PQ;
+    new_points(2, 3, 1, count);
+    for (k = 0; bytes == PT && k < count; k++)
+        set_q(k, 1);
+}
+
+/* Reads a file of this kind and so many points, and writes what was read: its PQ form is due. */
+static void rewriter(const char *what, size_t bytes, size_t count)
+{
+    output lent[4] = { lend(2, count, NULL, 0), lend(2, count, NULL, 0), lend(8, count, NULL, 0), lend(1, count, NULL, 0) }, made;
+    fields head, answer = { { 0 } }, due = { { 0 } };
+    curlew_count got;
+    size_t k;
+
+    record = bytes;
+    new_points(2, 3, 1, count);
+    head = read_into(lent);
+    begin_form(bytes, count);
+    made = lend(1, file_len + 1, file, file_len);
+    got = curlew_write_points(head.field[2], head.field[3], head.field[4], (uint16_t *)(void *)lent[0].memory, count,
+                              (uint16_t *)(void *)lent[1].memory, count, (int64_t *)(void *)lent[2].memory, count,
+                              lent[3].memory, count, made.memory, made.count);
+    answer.field[0] = head.field[0] + got.number;
+    answer.field[1] = head.field[1] + got.place;
+    answer.field[2] = got.count;
+    due.field[2] = file_len;
+    report("rewriter", what, count, answer, due, 3, &made, 1);
+    for (k = 0; k < COUNT(lent); k++)
+        free(lent[k].memory);
+}
+
+static void rewriters(void)
+{
+    static const size_t count[] = { 0, 1, 3, 535, MOST_POINTS };
+    size_t k;
+
+    for (k = 0; k < COUNT(count); k++) {
+        rewriter("PT points", PT, count[k]);
+        rewriter("PQ points", PQ, count[k]);
+    }
+}
+
+/* The point reader on files of one kind. */
+static void point_readers(const kind *k, size_t bytes)
+{
+    record = bytes;
+    cut_files(k);
+    damaged_marks(k);
+    trailing_bytes(k);
+    point_heads();
+    point_positions();
+    widest_grid();
+    point_heights();
+    point_counts();
+    most_points();
+    point_outputs();
 }
 
 static void readers(void)
@@ -798,15 +1033,13 @@ static void readers(void)
     lattice_values();
     lattice_outputs();
     largest_lattice_reader();
-    cut_files(&point_kind);
-    damaged_marks(&point_kind);
-    trailing_bytes(&point_kind);
-    point_heads();
-    point_positions();
-    widest_grid();
-    point_heights();
-    point_counts();
-    point_outputs();
+    point_readers(&pt_kind, PT);
+    point_readers(&pq_kind, PQ);
+    first_records();
+    later_records();
+    mixed_kinds();
+    point_confidences();
+    no_points();
 }
 
 static void writers(void)
@@ -815,10 +1048,12 @@ static void writers(void)
     lattice_writer_slices();
     lattice_writer_values();
     largest_lattice_writer();
+    record = PQ;
     point_writer_heads();
     point_writer_lists();
     point_writer_points();
     point_writer_order();
+    rewriters();
 }
 
 int main(void)

@@ -2,7 +2,8 @@
  * A libFuzzer target for the two readers: any bytes as a file, read by the library and by the reference, everything
  * compared as in tests/compare/trial.c. A difference ends the process, which libFuzzer reports with the input.
  *
- * The first byte chooses the reader (its lowest bit) and how long the outputs are (the next two); the rest is the file.
+ * The first byte chooses the reader (its lowest bit), how long an output is (the next two), and which of a point reader's four lists
+ * that is (the next three; the others are as long as the file asks, or all are that long); the rest is the file.
  */
 #include "../compare/trial.h"
 
@@ -27,6 +28,12 @@ static size_t places_of(function reader, const uint8_t *file, size_t length)
     return places < length ? places : length;
 }
 
+/* The one list that the choice is for, or SLICES if it is for all outputs. */
+static role chosen_list(function reader, unsigned choice)
+{
+    return reader == READ_POINTS && (choice & 7) <= Q ? (role)(choice & 7) : SLICES;
+}
+
 /* Exactly so many, one too few, some more, or none. */
 static size_t length_for(size_t places, unsigned choice)
 {
@@ -49,16 +56,18 @@ int LLVMFuzzerTestOneInput(const uint8_t *data, size_t size)
 {
     call c = { READ_LATTICE, { 0 }, { { NULL, 0 } } };
     const uint8_t *file = data + 1;
-    size_t length;
-    role r;
+    size_t places, length;
+    role r, chosen;
 
     if (size == 0 || size - 1 > 60000)          /* so that the outputs have room too */
         return 0;
     c.function = data[0] & 1 ? READ_POINTS : READ_LATTICE;
-    length = length_for(places_of(c.function, file, size - 1), data[0] >> 1);
+    chosen = chosen_list(c.function, data[0] >> 3);
+    places = places_of(c.function, file, size - 1);
+    length = length_for(places, data[0] >> 1);
     for (r = X; r < SLICES; r++)
         if (writes(c.function, r))
-            lend(&c, r, length);
+            lend(&c, r, chosen == SLICES || chosen == r ? length : places);
     c.slice[BYTES].at = (void *)file;
     c.slice[BYTES].length = size - 1;
     trial_name("fuzzed file", data[0] >> 3);

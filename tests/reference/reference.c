@@ -1,11 +1,11 @@
 /*
- * A second implementation of document 01 and of document 02's jobs 1 and 3 to 7, written from
+ * A second implementation of document 01 and of document 02's jobs 1 and 3 to 8, written from
  * their text: its author had document 01 and the interface reference.h, the later author of the
  * slopes that job's text too, and this file as it stood, and the authors of refusals 13 and 14,
- * of the base, of the finer default step, of the pond storage and of the ground above a stage
- * documents 01 and 02, the interface, this file and README.md as they stood. None had the
- * definitions, nor the library's code, nor any paper that explains them. README.md says how they
- * read what the text leaves open.
+ * of the base, of the finer default step, of the pond storage, of the ground above a stage and of
+ * the confidence of a point documents 01 and 02, the interface, this file and README.md as they
+ * stood. None had the definitions, nor the library's code, nor any paper that explains them.
+ * README.md says how they read what the text leaves open.
  *
  * Compile with
  *     gcc -std=c99 -Wall -Wextra -pedantic -O3 -ffp-contract=off
@@ -42,10 +42,11 @@
 #define LATTICE_HEADER_BYTES 6
 #define LATTICE_CLOSING_BYTES 4
 #define POINT_HEADER_BYTES 8
-#define POINT_BYTES 14
+#define PT_BYTES 14
+#define PQ_BYTES 15                 /* those of a PT record, then q */
 
-#define PROGRAM_BYTES 7008
-#define PROGRAM_POINTS ((PROGRAM_BYTES - POINT_HEADER_BYTES) / POINT_BYTES)
+#define PROGRAM_BYTES 7508
+#define PROGRAM_POINTS ((PROGRAM_BYTES - POINT_HEADER_BYTES) / PT_BYTES)   /* 535; as PQ records only 500 fit */
 #define PROGRAM_CELLS 16
 #define PROGRAM_PLACES ((PROGRAM_CELLS + 3) * (PROGRAM_CELLS + 3))
 #define PROGRAM_OUTPUT 2974
@@ -325,14 +326,15 @@ ref_cells ref_refine(size_t m, size_t n, const int64_t *lattice, size_t lattice_
 
 /* ---- Point lists, for the fit and the point writer ---- */
 
-/* Refusals 1, 2 and 3; 0 for none. */
-static uint64_t check_lists(size_t m0, size_t n0, size_t h, size_t x_len, size_t y_len, size_t z_len)
+/* Refusals 1, 2 and 3, which covers the list of confidences too; 0 for none. */
+static uint64_t check_lists(size_t m0, size_t n0, size_t h,
+                            size_t x_len, size_t y_len, size_t z_len, size_t q_len)
 {
     if (!cells_allowed(m0, n0, MAX_COARSEST))
         return 1;
     if (h > MAX_H)
         return 2;
-    if (x_len != y_len || x_len != z_len || x_len > MAX_POINTS)
+    if (x_len != y_len || x_len != z_len || x_len != q_len || x_len > MAX_POINTS)
         return 3;
     return 0;
 }
@@ -343,9 +345,9 @@ static size_t far_edge(size_t coarsest, size_t h)
     return coarsest << (FINEST_SHIFT + h);
 }
 
-/* "Points go in list order, 5 before 6 in a point." */
+/* "Points go in list order, 5 before 6 in a point", and 17 "after 6 in each point". A byte above 0 is a good q. */
 static verdict check_points(size_t m0, size_t n0, size_t h, size_t points,
-                            const uint16_t *x, const uint16_t *y, const int64_t *z)
+                            const uint16_t *x, const uint16_t *y, const int64_t *z, const uint8_t *q)
 {
     size_t x_edge = far_edge(m0, h), y_edge = far_edge(n0, h);
     for (size_t i = 0; i < points; i++) {
@@ -353,13 +355,15 @@ static verdict check_points(size_t m0, size_t n0, size_t h, size_t points,
             return (verdict){ 5, i };
         if (!in_range(z[i]))
             return (verdict){ 6, i };
+        if (q[i] == 0)
+            return (verdict){ 17, i };
     }
     return (verdict){ 0, 0 };
 }
 
 /* ---- The base ---- */
 
-/* "near of the mean height, or 0 with no points": in range, as it lies between heights that are. */
+/* "near of the mean height, or 0 with no points": in range, as it lies between heights that are. It "ignores q". */
 int64_t ref_base(const int64_t *z, size_t points)
 {
     int64_t sum = 0;
@@ -384,13 +388,14 @@ typedef struct {
     size_t m0, n0, h, points;
     int64_t base;
     const uint16_t *x, *y;
+    const uint8_t *q;
     int64_t *level, *running, *spare, *residual;
     double *first, *second;         /* the two running sums of every control value */
 } fit_work;
 
-/* Adds one point, of value z, to the sums of its sixteen control values. */
+/* Adds one point, of value z and confidence q, to the sums of its sixteen control values. S has no q in it. */
 static void add_point(double *restrict first, double *restrict second, size_t width, unsigned shift,
-                      const axis_place *x, const axis_place *y, double z)
+                      const axis_place *x, const axis_place *y, double z, double q)
 {
     double divisor = (double)(INT64_C(6) << 3 * shift);
     double b[4], c[4], w[4][4], s = 0.0;
@@ -406,9 +411,9 @@ static void add_point(double *restrict first, double *restrict second, size_t wi
     for (size_t l = 0; l < 4; l++) {
         size_t row = (y->cell + l) * width + x->cell;
         for (size_t k = 0; k < 4; k++) {
-            double square = w[l][k] * w[l][k];
-            first[row + k] += square * ((w[l][k] * z) / s);
-            second[row + k] += square;
+            double pull = q * (w[l][k] * w[l][k]);
+            first[row + k] += pull * ((w[l][k] * z) / s);
+            second[row + k] += pull;
         }
     }
 }
@@ -423,7 +428,7 @@ static void gather_sums(const fit_work *f, size_t m, size_t n, unsigned shift)
     }
     for (size_t i = 0; i < f->points; i++) {
         axis_place x = place_on_axis(f->x[i], m, shift), y = place_on_axis(f->y[i], n, shift);
-        add_point(f->first, f->second, m + 3, shift, &x, &y, (double)f->residual[i]);
+        add_point(f->first, f->second, m + 3, shift, &x, &y, (double)f->residual[i], (double)f->q[i]);
     }
 }
 
@@ -535,23 +540,24 @@ static cause run_level(fit_work *f, size_t k, int64_t *kept)
 /*
  * Both fits; ref_fit lends no levels. All work is done in the scratch, as a refusal in a
  * level, 7, 13 or 14, leaves lattice and residuals as they were. 15 comes "after 6 and before
- * level 0" with "every slice left", so no difference is written before all are asked.
+ * level 0" with "every slice left", so no difference is written before all are asked. 17 is
+ * asked in each point, and so comes before any 15.
  */
 ref_cells ref_fit_levels(size_t m0, size_t n0, size_t h,
                          const uint16_t *x, size_t x_len, const uint16_t *y, size_t y_len,
-                         const int64_t *z, size_t z_len,
+                         const int64_t *z, size_t z_len, const uint8_t *q, size_t q_len,
                          int64_t *lattice, size_t lattice_len, int64_t *residual, size_t residual_len,
                          int64_t *whole, size_t whole_len, double *floats, size_t floats_len,
                          int64_t *const *levels)
 {
-    uint64_t number = check_lists(m0, n0, h, x_len, y_len, z_len);
+    uint64_t number = check_lists(m0, n0, h, x_len, y_len, z_len, q_len);
     if (number != 0)
         return (ref_cells){ .number = number };
     size_t points = x_len, places = ref_level_places(m0, n0, h);
     if (lattice_len < places || residual_len < points
         || whole_len < 3 * places + points || floats_len < 2 * places)
         return (ref_cells){ .number = 4 };
-    verdict bad = check_points(m0, n0, h, points, x, y, z);
+    verdict bad = check_points(m0, n0, h, points, x, y, z, q);
     if (bad.number != 0)
         return (ref_cells){ .number = bad.number, .place = bad.place };
     int64_t base = ref_base(z, points);
@@ -559,7 +565,7 @@ ref_cells ref_fit_levels(size_t m0, size_t n0, size_t h,
     if (far < points)
         return (ref_cells){ .number = 15, .place = far };
 
-    fit_work f = { m0, n0, h, points, base, x, y,
+    fit_work f = { m0, n0, h, points, base, x, y, q,
                    whole, whole + places, whole + 2 * places, whole + 3 * places,
                    floats, floats + places };
     for (size_t i = 0; i < points; i++)
@@ -583,11 +589,11 @@ ref_cells ref_fit_levels(size_t m0, size_t n0, size_t h,
 
 ref_cells ref_fit(size_t m0, size_t n0, size_t h,
                   const uint16_t *x, size_t x_len, const uint16_t *y, size_t y_len,
-                  const int64_t *z, size_t z_len,
+                  const int64_t *z, size_t z_len, const uint8_t *q, size_t q_len,
                   int64_t *lattice, size_t lattice_len, int64_t *residual, size_t residual_len,
                   int64_t *whole, size_t whole_len, double *floats, size_t floats_len)
 {
-    return ref_fit_levels(m0, n0, h, x, x_len, y, y_len, z, z_len, lattice, lattice_len,
+    return ref_fit_levels(m0, n0, h, x, x_len, y, y_len, z, z_len, q, q_len, lattice, lattice_len,
                           residual, residual_len, whole, whole_len, floats, floats_len, NULL);
 }
 
@@ -935,21 +941,57 @@ static verdict check_point_header(const uint8_t *file, size_t file_len)
     return (verdict){ 0, 0 };
 }
 
+/* The two kinds of point record: the second letter of the mark, and the bytes of the record. */
+typedef struct { char letter; size_t bytes; } point_kind;
+
+static const point_kind without_q = { 'T', PT_BYTES }, with_q = { 'Q', PQ_BYTES };
+
+/*
+ * "the first sets the kind", of a file whose header is good. Its mark is read only where 14 bytes are left. A first
+ * record with fewer, or with a mark that is neither, goes on as a PT, and open_record refuses it by 9 or by 10. A PQ
+ * with 14 is refused by 9 there, as it has 15 in all. With no points the kind is never used.
+ */
+static point_kind kind_of_points(const uint8_t *file, size_t file_len)
+{
+    const uint8_t *first = file + POINT_HEADER_BYTES;
+    if (file_len - POINT_HEADER_BYTES < PT_BYTES)
+        return without_q;
+    return first[0] == (uint8_t)'P' && first[1] == (uint8_t)with_q.letter ? with_q : without_q;
+}
+
+/* "with q as a last byte"; "a PT point reads as q = 1". */
+static uint8_t get_confidence(const uint8_t *record, point_kind kind)
+{
+    return kind.letter == with_q.letter ? record[PT_BYTES] : 1;
+}
+
+/* One record of a file whose kind is set: "later records are measured by the kind", and here the first is too. */
+static verdict check_point_record(const uint8_t *file, size_t file_len, size_t at, point_kind kind,
+                                  size_t x_edge, size_t y_edge)
+{
+    verdict bad = open_record(file, file_len, at, kind.bytes, 'P', kind.letter);
+    if (bad.number != 0)
+        return bad;
+    if (get_u16(file + at + 2) > x_edge)
+        return (verdict){ 11, at + 2 };
+    if (get_u16(file + at + 4) > y_edge)
+        return (verdict){ 11, at + 4 };
+    if (!in_range(get_i64(file + at + 6)))
+        return (verdict){ 11, at + 6 };
+    if (get_confidence(file + at, kind) == 0)
+        return (verdict){ 11, at + PT_BYTES };
+    return (verdict){ 0, 0 };
+}
+
 /* The points and the end of a file whose header is good. */
-static verdict check_point_records(const uint8_t *file, size_t file_len, size_t points,
+static verdict check_point_records(const uint8_t *file, size_t file_len, size_t points, point_kind kind,
                                    size_t x_edge, size_t y_edge)
 {
     size_t at = POINT_HEADER_BYTES;
-    for (size_t i = 0; i < points; i++, at += POINT_BYTES) {
-        verdict bad = open_record(file, file_len, at, POINT_BYTES, 'P', 'T');
+    for (size_t i = 0; i < points; i++, at += kind.bytes) {
+        verdict bad = check_point_record(file, file_len, at, kind, x_edge, y_edge);
         if (bad.number != 0)
             return bad;
-        if (get_u16(file + at + 2) > x_edge)
-            return (verdict){ 11, at + 2 };
-        if (get_u16(file + at + 4) > y_edge)
-            return (verdict){ 11, at + 4 };
-        if (!in_range(get_i64(file + at + 6)))
-            return (verdict){ 11, at + 6 };
     }
     if (at < file_len)
         return (verdict){ 12, at };
@@ -957,37 +999,41 @@ static verdict check_point_records(const uint8_t *file, size_t file_len, size_t 
 }
 
 ref_header ref_read_points(const uint8_t *file, size_t file_len, uint16_t *x, size_t x_len,
-                           uint16_t *y, size_t y_len, int64_t *z, size_t z_len)
+                           uint16_t *y, size_t y_len, int64_t *z, size_t z_len, uint8_t *q, size_t q_len)
 {
     verdict bad = check_point_header(file, file_len);
     if (bad.number != 0)
         return (ref_header){ .number = bad.number, .place = bad.place };
     size_t m0 = file[2], n0 = file[3], h = file[4], points = get_u16(file + 6);
-    bad = check_point_records(file, file_len, points, far_edge(m0, h), far_edge(n0, h));
+    point_kind kind = kind_of_points(file, file_len);
+    bad = check_point_records(file, file_len, points, kind, far_edge(m0, h), far_edge(n0, h));
     if (bad.number != 0)
         return (ref_header){ .number = bad.number, .place = bad.place };
-    if (x_len < points || y_len < points || z_len < points)
+    if (x_len < points || y_len < points || z_len < points || q_len < points)
         return (ref_header){ .number = 4 };
     const uint8_t *at = file + POINT_HEADER_BYTES;
-    for (size_t i = 0; i < points; i++, at += POINT_BYTES) {
+    for (size_t i = 0; i < points; i++, at += kind.bytes) {
         x[i] = get_u16(at + 2);
         y[i] = get_u16(at + 4);
         z[i] = get_i64(at + 6);
+        q[i] = get_confidence(at, kind);
     }
     return (ref_header){ .m0 = m0, .n0 = n0, .h = h, .points = points };
 }
 
+/* "The writer writes PQ", also where every q is 1. */
 ref_count ref_write_points(size_t m0, size_t n0, size_t h,
                            const uint16_t *x, size_t x_len, const uint16_t *y, size_t y_len,
-                           const int64_t *z, size_t z_len, uint8_t *output, size_t output_len)
+                           const int64_t *z, size_t z_len, const uint8_t *q, size_t q_len,
+                           uint8_t *output, size_t output_len)
 {
-    uint64_t number = check_lists(m0, n0, h, x_len, y_len, z_len);
+    uint64_t number = check_lists(m0, n0, h, x_len, y_len, z_len, q_len);
     if (number != 0)
         return (ref_count){ .number = number };
-    size_t points = x_len, bytes = POINT_HEADER_BYTES + points * POINT_BYTES;
+    size_t points = x_len, bytes = POINT_HEADER_BYTES + points * PQ_BYTES;
     if (output_len < bytes)
         return (ref_count){ .number = 4 };
-    verdict bad = check_points(m0, n0, h, points, x, y, z);
+    verdict bad = check_points(m0, n0, h, points, x, y, z, q);
     if (bad.number != 0)
         return (ref_count){ .number = bad.number, .place = bad.place };
     put_mark(output, 'P', 'H');
@@ -997,11 +1043,12 @@ ref_count ref_write_points(size_t m0, size_t n0, size_t h,
     output[5] = 0;
     put_u16(output + 6, points);
     uint8_t *at = output + POINT_HEADER_BYTES;
-    for (size_t i = 0; i < points; i++, at += POINT_BYTES) {
-        put_mark(at, 'P', 'T');
+    for (size_t i = 0; i < points; i++, at += PQ_BYTES) {
+        put_mark(at, 'P', with_q.letter);
         put_u16(at + 2, x[i]);
         put_u16(at + 4, y[i]);
         put_i64(at + 6, z[i]);
+        at[PT_BYTES] = q[i];
     }
     return (ref_count){ .count = bytes };
 }
@@ -1020,6 +1067,7 @@ static size_t write_refusal(uint64_t number, uint64_t place, uint8_t *output)
 size_t ref_program(const uint8_t *input, size_t input_len, uint8_t *output)
 {
     uint16_t x[PROGRAM_POINTS], y[PROGRAM_POINTS];
+    uint8_t q[PROGRAM_POINTS];
     int64_t z[PROGRAM_POINTS], residual[PROGRAM_POINTS], lattice[PROGRAM_PLACES];
     int64_t whole[3 * PROGRAM_PLACES + PROGRAM_POINTS];
     double floats[2 * PROGRAM_PLACES];
@@ -1027,13 +1075,13 @@ size_t ref_program(const uint8_t *input, size_t input_len, uint8_t *output)
     if (input_len > PROGRAM_BYTES)
         return write_refusal(4, 0, output);
     ref_header header = ref_read_points(input, input_len, x, PROGRAM_POINTS, y, PROGRAM_POINTS,
-                                        z, PROGRAM_POINTS);
+                                        z, PROGRAM_POINTS, q, PROGRAM_POINTS);
     if (header.number != 0)
         return write_refusal(header.number, header.place, output);
     if (header.m0 << header.h > PROGRAM_CELLS || header.n0 << header.h > PROGRAM_CELLS)
         return write_refusal(4, 0, output);
     ref_cells fit = ref_fit(header.m0, header.n0, header.h,
-                            x, header.points, y, header.points, z, header.points,
+                            x, header.points, y, header.points, z, header.points, q, header.points,
                             lattice, PROGRAM_PLACES, residual, PROGRAM_POINTS,
                             whole, 3 * PROGRAM_PLACES + PROGRAM_POINTS, floats, 2 * PROGRAM_PLACES);
     if (fit.number != 0)

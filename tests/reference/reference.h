@@ -1,8 +1,9 @@
 /*
  * A second implementation of the ground lattice of document 01, of the slopes of
  * document 02's first job, of the refusals 13 and 14 of its third, of the base of its
- * fourth, of the finer default raster of its fifth, of the pond storage of its sixth and of
- * the ground above a stage of its seventh, in plain C99, written from their text.
+ * fourth, of the finer default raster of its fifth, of the pond storage of its sixth, of
+ * the ground above a stage of its seventh and of the confidence of a point of its eighth, in
+ * plain C99, written from their text.
  *
  * Every call checks its arguments itself, refuses as the documents say and then
  * leaves the slices as they say. Any argument may have any value; a
@@ -30,7 +31,7 @@ int64_t ref_near(int64_t v, int64_t d);
 
 ref_cells ref_fit(size_t m0, size_t n0, size_t h,
                   const uint16_t *x, size_t x_len, const uint16_t *y, size_t y_len,
-                  const int64_t *z, size_t z_len,
+                  const int64_t *z, size_t z_len, const uint8_t *q, size_t q_len,
                   int64_t *lattice, size_t lattice_len, int64_t *residual, size_t residual_len,
                   int64_t *whole, size_t whole_len, double *floats, size_t floats_len);
 
@@ -67,11 +68,12 @@ ref_count ref_write_lattice(size_t m, size_t n, const int64_t *lattice, size_t l
                             uint8_t *output, size_t output_len);
 
 ref_header ref_read_points(const uint8_t *file, size_t file_len, uint16_t *x, size_t x_len,
-                           uint16_t *y, size_t y_len, int64_t *z, size_t z_len);
+                           uint16_t *y, size_t y_len, int64_t *z, size_t z_len, uint8_t *q, size_t q_len);
 
 ref_count ref_write_points(size_t m0, size_t n0, size_t h,
                            const uint16_t *x, size_t x_len, const uint16_t *y, size_t y_len,
-                           const int64_t *z, size_t z_len, uint8_t *output, size_t output_len);
+                           const int64_t *z, size_t z_len, const uint8_t *q, size_t q_len,
+                           uint8_t *output, size_t output_len);
 
 /*
  * The program: standard input to standard output. The output has room for 2,974 bytes;
@@ -94,12 +96,12 @@ int64_t ref_base(const int64_t *z, size_t points);
 /*
  * The fit again, keeping every level lattice: levels has h + 1 arrays, and array k at least
  * ref_level_places(m0, n0, k) places. Answer and slices are those of ref_fit. The levels hold
- * the level lattices, which are those of the differences, on acceptance only; refusals 1 to 6 and 15
+ * the level lattices, which are those of the differences, on acceptance only; refusals 1 to 6, 17 and 15
  * leave them as they were.
  */
 ref_cells ref_fit_levels(size_t m0, size_t n0, size_t h,
                          const uint16_t *x, size_t x_len, const uint16_t *y, size_t y_len,
-                         const int64_t *z, size_t z_len,
+                         const int64_t *z, size_t z_len, const uint8_t *q, size_t q_len,
                          int64_t *lattice, size_t lattice_len, int64_t *residual, size_t residual_len,
                          int64_t *whole, size_t whole_len, double *floats, size_t floats_len,
                          int64_t *const *levels);

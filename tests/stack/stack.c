@@ -21,6 +21,7 @@ enum { POINTS = 65535, CELLS = 512, SIDE = 1025 };
 
 static uint16_t x[POINTS], y[POINTS];
 static int64_t z[POINTS], residual[POINTS];
+static uint8_t q[POINTS];
 static int64_t lattice[CURLEW_CONTROLS(CELLS, CELLS)], raster[SIDE * SIDE];
 static int64_t whole[CURLEW_FIT_WHOLE(16, 16, 5, POINTS)];
 static double floats[CURLEW_FIT_FLOATS(16, 16, 5)];
@@ -28,8 +29,8 @@ static uint8_t file[CURLEW_LATTICE_FILE(CELLS, CELLS)];
 
 static size_t fit(void)
 {
-    return curlew_fit(16, 16, 5, x, POINTS, y, POINTS, z, POINTS, lattice, sizeof lattice / sizeof *lattice, residual, POINTS,
-                      whole, sizeof whole / sizeof *whole, floats, sizeof floats / sizeof *floats).number;
+    return curlew_fit(16, 16, 5, x, POINTS, y, POINTS, z, POINTS, q, POINTS, lattice, sizeof lattice / sizeof *lattice,
+                      residual, POINTS, whole, sizeof whole / sizeof *whole, floats, sizeof floats / sizeof *floats).number;
 }
 
 static size_t height_at(void)
@@ -83,12 +84,12 @@ static size_t read_lattice(void)
 
 static size_t write_points(void)
 {
-    return curlew_write_points(16, 16, 5, x, POINTS, y, POINTS, z, POINTS, file, sizeof file).number;
+    return curlew_write_points(16, 16, 5, x, POINTS, y, POINTS, z, POINTS, q, POINTS, file, sizeof file).number;
 }
 
 static size_t read_points(void)
 {
-    return curlew_read_points(file, CURLEW_POINT_FILE(POINTS), x, POINTS, y, POINTS, z, POINTS).number;
+    return curlew_read_points(file, CURLEW_POINT_FILE(POINTS), x, POINTS, y, POINTS, z, POINTS, q, POINTS).number;
 }
 
 /* In an order in which each finds what it reads. */
@@ -177,6 +178,7 @@ int main(void)
         x[i] = (uint16_t)(i * 7919 % 8193);
         y[i] = (uint16_t)(i * 104729 % 8193);
         z[i] = (int64_t)(i * 2654435761u % 2000001) - 1000000;
+        q[i] = (uint8_t)(1 + i % 255);
     }
     for (i = 0; i < sizeof calls / sizeof *calls; i++) {
         size_t number, bytes = used(calls[i].run, &number), again = tried(calls[i].run);

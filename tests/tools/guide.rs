@@ -2,11 +2,11 @@
 // Follows the declarations of docs/HOST.md: calls each of the eleven functions. m0, n0, h and p all differ, and so do m and n, so that
 // two fields or two arguments that changed places are seen.
 fn main() {
-    let (m0, n0, h, x, y, z) = (4, 3, 1, [0u16, 100], [0u16, 50], [9i64, -7]);
+    let (m0, n0, h, x, y, z, q) = (4, 3, 1, [0u16, 100], [0u16, 50], [9i64, -7], [1u8, 255]);
     let (mut lattice, mut residual, mut whole, mut floats) = (vec![7i64; 99], vec![7i64; 2], vec![7i64; 299], vec![7f64; 198]);
     let fitted = unsafe {
-        curlew_fit(m0, n0, h, x.as_ptr(), 2, y.as_ptr(), 2, z.as_ptr(), 2, lattice.as_mut_ptr(), 99, residual.as_mut_ptr(), 2,
-                   whole.as_mut_ptr(), 299, floats.as_mut_ptr(), 198)
+        curlew_fit(m0, n0, h, x.as_ptr(), 2, y.as_ptr(), 2, z.as_ptr(), 2, q.as_ptr(), 2, lattice.as_mut_ptr(), 99,
+                   residual.as_mut_ptr(), 2, whole.as_mut_ptr(), 299, floats.as_mut_ptr(), 198)
     };
     assert_eq!(fitted, Cells { number: 0, place: 0, m: 8, n: 6 });
     assert!(whole.iter().all(|&v| v == 0) && floats.iter().all(|&v| v == 0.0));
@@ -54,13 +54,16 @@ fn main() {
     let cells = unsafe { curlew_read_lattice(file.as_ptr(), 838, read.as_mut_ptr(), 99) };
     assert_eq!((cells, read), (fitted, lattice));
 
-    let (mut file, mut x2, mut y2, mut z2) = ([0u8; 36], [1u16; 2], [1u16; 2], [1i64; 2]);
-    let bytes = unsafe { curlew_write_points(m0, n0, h, x.as_ptr(), 2, y.as_ptr(), 2, z.as_ptr(), 2, file.as_mut_ptr(), 36) };
-    assert_eq!(bytes, Count { number: 0, place: 0, count: 36 });
+    let (mut file, mut x2, mut y2, mut z2, mut q2) = ([0u8; 38], [1u16; 2], [1u16; 2], [1i64; 2], [0u8; 2]);
+    let mut write_points = |q: &[u8]| unsafe {
+        curlew_write_points(m0, n0, h, x.as_ptr(), 2, y.as_ptr(), 2, z.as_ptr(), 2, q.as_ptr(), 2, file.as_mut_ptr(), 38)
+    };
+    assert_eq!(write_points(&[1, 0]), Count { number: 17, place: 1, count: 0 });
+    assert_eq!(write_points(&q), Count { number: 0, place: 0, count: 38 });
     let header = unsafe {
-        curlew_read_points(file.as_ptr(), 36, x2.as_mut_ptr(), 2, y2.as_mut_ptr(), 2, z2.as_mut_ptr(), 2)
+        curlew_read_points(file.as_ptr(), 38, x2.as_mut_ptr(), 2, y2.as_mut_ptr(), 2, z2.as_mut_ptr(), 2, q2.as_mut_ptr(), 2)
     };
     assert_eq!(header, Header { number: 0, place: 0, m0, n0, h, points: 2 });
-    assert_eq!((x2, y2, z2), (x, y, z));
+    assert_eq!((x2, y2, z2, q2), (x, y, z, q));
     println!("eleven functions called");
 }

@@ -18,10 +18,10 @@ static curlew_count count(ref_count answer)
 }
 
 curlew_cells curlew_fit(size_t m0, size_t n0, size_t h, const uint16_t *x, size_t x_len, const uint16_t *y, size_t y_len,
-                        const int64_t *z, size_t z_len, int64_t *lattice, size_t lattice_len, int64_t *residual, size_t residual_len,
-                        int64_t *whole, size_t whole_len, double *floats, size_t floats_len)
+                        const int64_t *z, size_t z_len, const uint8_t *q, size_t q_len, int64_t *lattice, size_t lattice_len,
+                        int64_t *residual, size_t residual_len, int64_t *whole, size_t whole_len, double *floats, size_t floats_len)
 {
-    return cells(ref_fit(m0, n0, h, x, x_len, y, y_len, z, z_len, lattice, lattice_len, residual, residual_len,
+    return cells(ref_fit(m0, n0, h, x, x_len, y, y_len, z, z_len, q, q_len, lattice, lattice_len, residual, residual_len,
                          whole, whole_len, floats, floats_len));
 }
 
@@ -76,15 +76,16 @@ curlew_count curlew_write_lattice(size_t m, size_t n, const int64_t *lattice, si
 }
 
 curlew_header curlew_read_points(const uint8_t *file, size_t file_len, uint16_t *x, size_t x_len, uint16_t *y, size_t y_len,
-                                 int64_t *z, size_t z_len)
+                                 int64_t *z, size_t z_len, uint8_t *q, size_t q_len)
 {
-    ref_header answer = ref_read_points(file, file_len, x, x_len, y, y_len, z, z_len);
+    ref_header answer = ref_read_points(file, file_len, x, x_len, y, y_len, z, z_len, q, q_len);
     curlew_header same = { answer.number, answer.place, answer.m0, answer.n0, answer.h, answer.points };
     return same;
 }
 
 curlew_count curlew_write_points(size_t m0, size_t n0, size_t h, const uint16_t *x, size_t x_len, const uint16_t *y, size_t y_len,
-                                 const int64_t *z, size_t z_len, uint8_t *output, size_t output_len)
+                                 const int64_t *z, size_t z_len, const uint8_t *q, size_t q_len, uint8_t *output,
+                                 size_t output_len)
 {
-    return count(ref_write_points(m0, n0, h, x, x_len, y, y_len, z, z_len, output, output_len));
+    return count(ref_write_points(m0, n0, h, x, x_len, y, y_len, z, z_len, q, q_len, output, output_len));
 }

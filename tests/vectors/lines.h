@@ -29,6 +29,9 @@ void bad_line(const char *line);
 numbers read_numbers(const char *line);
 void free_numbers(numbers *line);
 
+/* Bytes of the hex text up to a blank or the end, to be given back with free; "-" is no bytes. Goes on to what follows the blank. */
+uint8_t *read_hex(const char **at, size_t *count);
+
 int same_values(const int64_t *left, const int64_t *right, size_t count);
 
 /* Says whether a line agrees with what the runner answers. */
@@ -38,8 +41,8 @@ typedef int line_check(const char *line, runner *run);
 size_t run_file(const char *folder, const char *name, line_check *agrees, runner *run);
 
 /*
- * Checks height.txt, slope.txt, refine.txt, raster.txt, above.txt, storage.txt and fit.txt on the runner; returns how many lines
- * differ.
+ * Checks height.txt, slope.txt, refine.txt, raster.txt, above.txt, storage.txt, fit.txt and points.txt on the runner; returns how
+ * many lines differ.
  */
 size_t run_calls(const char *folder, runner *run);
 
