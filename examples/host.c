@@ -40,7 +40,8 @@ typedef struct {
     size_t file_len;
     uint16_t *x, *y;
     int64_t *z;
-    size_t room;                    /* places of each of the three lists */
+    uint8_t *q;
+    size_t room;                    /* places of each of the four lists */
     curlew_header header;
     int64_t *lattice, *residual, *whole;
     double *floats;
@@ -58,6 +59,7 @@ static void release(survey *s)
     free(s->x);
     free(s->y);
     free(s->z);
+    free(s->q);
     free(s->lattice);
     free(s->residual);
     free(s->whole);
@@ -73,7 +75,7 @@ static const struct { const char *words, *place; } refusals[] = {
     { "accepted", "" },
     { "cells a side outside 1..16 (fit, point writer), 1..256 (refine), 1..512 (others)", "0" },
     { "h above 5, or U not 16, 32, 64, 128, 256 or 512", "0" },
-    { "x, y, z lists differ in length, or over 65,535 points", "0" },
+    { "x, y, z, q lists differ in length, or over 65,535 points", "0" },
     { "a lent slice is too short", "0" },
     { "position outside", "the point's or node's index, 0 for a single height or slope" },
     { "height or control value out of range", "its index, of a storage's heights from 1; 0 for a stage" },
@@ -87,6 +89,7 @@ static const struct { const char *words, *place; } refusals[] = {
     { "a sum out of range in a level of the fit", "the level" },
     { "a difference from the base of the fit out of range", "the point's index" },
     { "a node side outside 1..100 decimetres", "0" },
+    { "a confidence of 0", "the point's index" },
 };
 
 /* The point file is named, so that the words can be told apart where many hosts run side by side. */
@@ -137,18 +140,19 @@ static int read_file(survey *s)
     return failed;
 }
 
-/* A file of p points has 8 + 14p bytes, so its length says how many places the three lists need. */
+/* The shorter kind of record has 14 bytes, so a file's length says how many points it can hold at most. */
 static int read_survey(survey *s)
 {
-    const size_t head = CURLEW_POINT_FILE(0), record = CURLEW_POINT_FILE(1) - head;
+    const size_t head = CURLEW_PT_FILE(0), record = CURLEW_PT_FILE(1) - head;
 
     s->room = s->file_len < head ? 0 : (s->file_len - head) / record;
     s->x = lend(s->room, sizeof *s->x);
     s->y = lend(s->room, sizeof *s->y);
     s->z = lend(s->room, sizeof *s->z);
-    if (s->x == NULL || s->y == NULL || s->z == NULL)
+    s->q = lend(s->room, sizeof *s->q);
+    if (s->x == NULL || s->y == NULL || s->z == NULL || s->q == NULL)
         return FAILED;
-    s->header = curlew_read_points(s->file, s->file_len, s->x, s->room, s->y, s->room, s->z, s->room);
+    s->header = curlew_read_points(s->file, s->file_len, s->x, s->room, s->y, s->room, s->z, s->room, s->q, s->room);
     if (s->header.number != 0)
         return refused(s, "curlew_read_points", s->header.number, s->header.place);
     return DONE;
@@ -168,7 +172,7 @@ static int fit(survey *s)
     s->floats = lend(floats_len, sizeof *s->floats);
     if (s->lattice == NULL || s->residual == NULL || s->whole == NULL || s->floats == NULL)
         return FAILED;
-    s->cells = curlew_fit(m0, n0, h, s->x, p, s->y, p, s->z, p, s->lattice, k, s->residual, p,
+    s->cells = curlew_fit(m0, n0, h, s->x, p, s->y, p, s->z, p, s->q, p, s->lattice, k, s->residual, p,
                           s->whole, whole_len, s->floats, floats_len);
     if (s->cells.number != 0)
         return refused(s, "curlew_fit", s->cells.number, s->cells.place);

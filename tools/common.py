@@ -1,4 +1,4 @@
-"""What the tools share: numbers from words, and the two files and the height of document 01.
+"""What the tools share: numbers from words, and the two files and the height of documents 01 and 02.
 
 Nothing of this is proved. The proved readers, writers and heights are the library's (include/curlewtable.h);
 tests/tools/run compares these with them.
@@ -13,6 +13,7 @@ MOST_POINTS = 65_535
 MOST_COARSE_CELLS = 16
 MOST_CELLS = 512
 MOST_LEVEL = 5
+MOST_CONFIDENCE = 255
 FINEST_UNIT = 16            # positions of a finest cell
 
 WORDS = {9: 'record incomplete', 10: 'wrong mark', 11: 'field not allowed', 12: 'bytes after the end'}
@@ -106,30 +107,42 @@ def allow(condition, byte):
         raise Refused(11, byte)
 
 
+# the two kinds of point records, by their marks: PQ has the point's confidence as a last byte
+POINT_LAYOUTS = {b'PT': '<2sHHq', b'PQ': '<2sHHqB'}
+
+
+def point_kind(data):
+    """The first record sets the kind; one with neither mark is refused as PT."""
+    return b'PQ' if data[8:10] == b'PQ' else b'PT'
+
+
 def read_points(data):
-    """m0, n0, h and the list of (x, y, z) of a point file."""
+    """m0, n0, h and the list of (x, y, z, q) of a point file. A PT point has q 1."""
     m0, n0, h, zero, count = record(data, 0, b'PH', '<2sBBBBH')
     allow(1 <= m0 <= MOST_COARSE_CELLS, 2)
     allow(1 <= n0 <= MOST_COARSE_CELLS, 3)
     allow(h <= MOST_LEVEL, 4)
     allow(zero == 0, 5)
-    points, start = [], 8
+    points, start, kind = [], 8, point_kind(data)
+    layout = POINT_LAYOUTS[kind]
     for _ in range(count):
-        x, y, z = record(data, start, b'PT', '<2sHHq')
+        x, y, z, *last = record(data, start, kind, layout)
+        q = last[0] if last else 1
         allow(x <= FINEST_UNIT * (m0 << h), start + 2)
         allow(y <= FINEST_UNIT * (n0 << h), start + 4)
         allow(in_range(z), start + 6)
-        points.append((x, y, z))
-        start += 14
+        allow(q > 0, start + 14)
+        points.append((x, y, z, q))
+        start += struct.calcsize(layout)
     if len(data) > start:
         raise Refused(12, start)
     return m0, n0, h, points
 
 
 def write_points(m0, n0, h, points):
-    """A point file. The caller has held every field to its bounds."""
+    """A point file of PQ records. The caller has held every field to its bounds."""
     records = [struct.pack('<2sBBBBH', b'PH', m0, n0, h, 0, len(points))]
-    records += [struct.pack('<2sHHq', b'PT', x, y, z) for x, y, z in points]
+    records += [struct.pack(POINT_LAYOUTS[b'PQ'], b'PQ', *point) for point in points]
     return b''.join(records)
 
 
