@@ -97,26 +97,30 @@ static void lend(job *j, role r, size_t places)
     j->call.slice[r].length = places;
 }
 
-/* Random points of a grid with the ground's heights. */
+/* Random points of a grid with the ground's heights, of every confidence. */
 static void lend_points(job *j, size_t h, size_t points)
 {
     generator g = generator_of(1, points);
     const size_t far_x = 16 * CURLEW_CELLS(j->call.number[M], h), far_y = 16 * CURLEW_CELLS(j->call.number[N], h);
     uint16_t *x, *y;
     int64_t *z;
+    uint8_t *q;
     size_t at;
 
     j->call.number[H] = h;
     lend(j, X, points);
     lend(j, Y, points);
     lend(j, Z, points);
+    lend(j, Q, points);
     x = j->call.slice[X].at;
     y = j->call.slice[Y].at;
     z = j->call.slice[Z].at;
+    q = j->call.slice[Q].at;
     for (at = 0; at < points; at++) {
         x[at] = (uint16_t)below(&g, far_x + 1);
         y[at] = (uint16_t)below(&g, far_y + 1);
         z[at] = ground((double)x[at] / (double)far_x, (double)y[at] / (double)far_y);
+        q[at] = (uint8_t)between(&g, 1, 255);
     }
 }
 
@@ -279,6 +283,25 @@ static job *reading(job *j)
     } else {
         j->call.function = READ_POINTS;
     }
+    return j;
+}
+
+/* The same of a file of PT records: each of the PQ records without its last byte. */
+static job *reading_older(job *j)
+{
+    static const size_t head = CURLEW_PT_FILE(0), older = CURLEW_PT_FILE(1) - CURLEW_PT_FILE(0),
+                        newer = CURLEW_POINT_FILE(1) - CURLEW_POINT_FILE(0);
+    const size_t points = j->call.slice[X].length;
+    uint8_t *file;
+    size_t at;
+
+    reading(j);
+    file = j->call.slice[BYTES].at;
+    for (at = 0; at < points; at++) {
+        memmove(file + head + older * at, file + head + newer * at, older);
+        file[head + older * at + 1] = 'T';
+    }
+    j->call.slice[BYTES].length = CURLEW_PT_FILE(points);
     return j;
 }
 
@@ -508,8 +531,9 @@ static void calls_table(void)
     line("refine, 256 x 256 to 512 x 512", refine_job(256));
     line("write_lattice, 512 x 512 (2,123,870 bytes)", write_lattice_job(512));
     line("read_lattice, 512 x 512", reading(write_lattice_job(512)));
-    line("write_points, 65,535 points (917,498 bytes)", write_points_job(65535));
+    line("write_points, 65,535 points (983,033 bytes)", write_points_job(65535));
     line("read_points, 65,535 points", reading(write_points_job(65535)));
+    line("read_points, 65,535 points of PT records", reading_older(write_points_job(65535)));
 }
 
 static void above_table(void)
