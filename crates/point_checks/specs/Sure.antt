@@ -5,11 +5,11 @@ use mathlib.Core.Bool.{Bool, true, false, not, _&&_}
 use mathlib.Core.List.{List}
 use native.Mathlib.Decide.{decLt}
 use native.Mathlib.Omega.{arith}
-use borrow.Author.Tests.{le-leb, ne-eqb}
+use borrow.Author.Tests.{ne-eqb}
 use lib.Dec.{T, eqb}
 use lib.ListN.{length, getD}
 use mir.Facts.{and-yes}
-use Rattle.rules.specs.Grid.{confident, within}
+use Rattle.rules.specs.Grid.{confident}
 
 unfoldable pub allSure : ℕ → List ℕ → Bool
 allSure zero qs = true
@@ -37,15 +37,6 @@ sure-all zero qs h = refl
 sure-all (suc n) qs h =
     let last : 1 ≤ getD qs n 0 = h n (omega arith) in
     rw (sure-all n qs (λ i l. h i (omega arith)), ne-eqb (getD qs n 0) 0 (λ e. omega arith)) refl
-
--- a byte is a confidence exactly if it isn't 0
-pub byte-sure : (q : ℕ) → 1 ≤ q → q < 256 → confident q ≡ true
-unfolding confident within
-byte-sure q some most = rw (le-leb 1 q some, le-leb q 255 (omega arith)) refl
-
-pub zero-unsure : (q : ℕ) → q ≡ 0 → confident q ≡ false
-unfolding confident within
-zero-unsure q e = rw e refl
 
 -- point i is the first whose confidence is 0
 pub record FirstUnsure (i : ℕ) (qs : List ℕ) : Type 0 where

@@ -7,9 +7,10 @@ use Prim.Native.Nat.{ℕ, _+_, _≤_, _<_}
 use native.Mathlib.Omega.{arith}
 use borrow.Author.Tests.{le-leb, lt-leb}
 use lib.Dec.{leb}
-use Rattle.rules.specs.Grid.{inRange, inside, within, confident}
+use Rattle.rules.specs.Grid.{inRange, inside, confident}
 use Rattle.rules.specs.Answers.{Check, require, _then_, field}
 use Rattle.rules.specs.Bytes.{numberAt, valueAt, recordCheck}
+use Rattle.rules.specs.Laws.Checks.{byte-sure, zero-unsure}
 use Rattle.rules.specs.PointFile.{Kind, markOf, sizeOf, pointStart, fileShape, fileX, fileY, fileZ, lastNumber, fileQ, pointRecordCheck}
 use Rattle.point_records.specs.declared.Kind as code
 use Rattle.point_records.specs.Read.{ruled, Measured}
@@ -46,9 +47,9 @@ module _ (file : List ℕ) (k : Kind) (right top s : ℕ) where
 
       module _ (z : inRange (valueAt file (s + 6)) ≡ true) {q : ℕ} (is : q ≡ lastNumber k file (s + 14)) where
         pub unsure : q ≡ 0 → fields file k right top s ≡ some (field (s + 14))
-        unfolding fields confident within require _then_
-        unsure e = rw (le-leb _ _ x, le-leb _ _ y, z, ← is, e)
+        unfolding fields require _then_
+        unsure e = rw (le-leb _ _ x, le-leb _ _ y, z, ← is, zero-unsure q e)
 
         pub fine : q < 256 → (q ≡ 0 → ⊥) → fields file k right top s ≡ none
-        unfolding fields confident within require _then_
-        fine l e = rw (le-leb _ _ x, le-leb _ _ y, z, ← is, le-leb 1 q (omega arith), le-leb q 255 (omega arith))
+        unfolding fields require _then_
+        fine l e = rw (le-leb _ _ x, le-leb _ _ y, z, ← is, byte-sure q (omega arith) l)

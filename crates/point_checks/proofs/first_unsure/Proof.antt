@@ -7,7 +7,8 @@ use native.Mathlib.Omega.{arith}
 use borrow.Author.Count.{below-none, below-more}
 use lib.Dec.{T}
 use lib.ListN.{length, getD}
-use Rattle.point_checks.specs.Sure.{allSure, sure-all, byte-sure, zero-unsure}
+use Rattle.rules.specs.Laws.Checks.{byte-sure, zero-unsure}
+use Rattle.point_checks.specs.Sure.{allSure, sure-all}
 use Rattle.point_checks.proofs.first_unsure.Statement.{statement}
 use Rattle.point_checks.proofs.first_unsure.Tie as tie
 

@@ -16,8 +16,8 @@ use Rattle.rules.specs.Grid.{confident}
 use Rattle.rules.specs.Fit.{Survey, survey, pointCount, pointAt, total}
 use Rattle.rules.specs.Answers.{Refusal, confidence, Check, require, _then_, firstOf, refused, answer}
 use Rattle.rules.specs.Calls.{spotCheck, pointCheck, pointsCheck}
-use Rattle.rules.specs.Laws.Checks.{then-none, then-some, then-pass, then-assoc, firstOf-same, firstOf-at, firstOf-refusal}
-use Rattle.point_checks.specs.Sure.{allSure, each-sure, byte-sure, FirstUnsure}
+use Rattle.rules.specs.Laws.Checks.{byte-sure, then-none, then-some, then-pass, then-assoc, firstOf-same, firstOf-at, firstOf-refusal}
+use Rattle.point_checks.specs.Sure.{allSure, each-sure, FirstUnsure}
 use Rattle.point_checks.specs.Spots.{spotAt}
 use Rattle.point_checks.specs.Told as points-told
 use Rattle.point_checks.proofs.points.Statement.{statement}

@@ -11,10 +11,11 @@ use native.Mathlib.Decide.{decLt}
 use native.Mathlib.Omega.{arith}
 use borrow.Author.Tests.{leb-true, leb-false, ne-eqb}
 use lib.Dec.{T, leb, eqb, leb→le, le→leb}
+use lib.Ieee.Bits.{is-true}
 use lib.IntN.{ℤ, pos, natAbs}
 use lib.ListN.{getD}
 use mir.Facts.{and-yes, yes-and}
-use Rattle.rules.specs.Grid.{limit, inRange, within}
+use Rattle.rules.specs.Grid.{limit, inRange, confident, within}
 use Rattle.rules.specs.Answers.{Refusal, cells, levels, unit, lists, short, position, range, confidence, difference, quotient, residual, sum, size, side, incomplete, mark, field, trailing, number, inLevels}
 use Rattle.rules.specs.Answers.{Check, require, _then_, firstOf, rangeCheck, Answer, accepted, refused, answer, Outcome, outcome, call}
 
@@ -187,6 +188,15 @@ inRange-size z t = leb→le (natAbs z) limit t
 pub size-inRange : (z : ℤ) → natAbs z ≤ limit → T (inRange z)
 unfolding inRange
 size-inRange z h = le→leb (natAbs z) limit h
+
+-- a byte is a confidence exactly if it isn't 0
+pub byte-sure : (q : ℕ) → 1 ≤ q → q < 256 → confident q ≡ true
+unfolding confident
+byte-sure q least most = is-true (within 1 255 q) (bounds-within 1 255 q (least, omega arith))
+
+pub zero-unsure : (q : ℕ) → q ≡ 0 → confident q ≡ false
+unfolding confident within
+zero-unsure q e = rw e refl
 
 pub rangeCheck-size : (n : ℕ) (values : List ℤ) (f : ℕ → Refusal) → rangeCheck n values f ≡ none → AllInRange n values
 unfolding rangeCheck
