@@ -1,20 +1,20 @@
--- "Table of checked examples" of document 01: E1 to E8 and the three near examples, with slopes that tell the order of their roundings, bases that tell
--- near from floor, what a raster's step 0 stands for, storages, the ground above a stage, and points with a confidence and their files, with the order of
--- their refusals, as one computed table.
+-- "Table of checked examples" of document 01: E1 to E8 and the three near examples, with halves of both signs wherever near stands, slopes that tell the
+-- order of their roundings, bases that tell near from floor, what a raster's step 0 stands for, storages, the ground above a stage, and points with a
+-- confidence and their files, with the order of their refusals, as one computed table.
 use Prim.Native.Nat.{ℕ, zero, suc, _+_, _*_, _/_, _%_}
 use mathlib.Core.Bool.{Bool, true, false, _&&_, cond}
-use mathlib.Core.Option.{none, some}
+use mathlib.Core.Option.{Option, none, some}
 use mathlib.Core.List.{List, [], _∷_, _++_}
 use lib.Dec.{T, eqb}
 use lib.IntN.{ℤ, pos, negsuc, negℤ}
-use lib.Ieee.{Float, binary64, add, mul, div, ofInt, ofBits, toBits, size as digits}
+use lib.Ieee.{Float, fin, binary64, add, mul, div, ofInt, ofBits, toBits, size as digits}
 use lib.ListN.{replicate, take, drop}
 use Rattle.algebra.specs.Difference.{posPart}
-use Rattle.rules.specs.Rounding.{floor, near}
+use Rattle.rules.specs.Rounding.{floor, nearUp, nearDown, even, near}
 use Rattle.rules.specs.Grid.{Lattice, inRange, confident, within, inside, cellsAt, controls, control}
 use Rattle.rules.specs.Surface.{square, cube, numerator, denominator, cell, offset, weighted, along, height}
 use Rattle.rules.specs.Slope.{slopeNumerator, slopeDenominator, slopeAlong, slopeX, slopeY}
-use Rattle.rules.specs.Level.{_⊘_, float, Point, basis, weight, addSquares, squares, noSums, grown, uses, touched}
+use Rattle.rules.specs.Level.{_⊘_, float, Point, basis, weight, addSquares, squares, noSums, grown, uses, touched, signed, nearFloat, kept}
 use Rattle.rules.specs.Refinement.{masked, finer, finer2, refined}
 use Rattle.rules.specs.Fit.{Shape, shape, columns, rows, Survey, survey, total, nearMean, base}
 use Rattle.rules.specs.Answers.{number, place, Check, require, _then_, firstOf, rangeCheck, Answer, accepted, refused, answer}
@@ -70,6 +70,14 @@ refusalOf (some r) = pos (1_000 * number r + place r)
 abbrev tooHigh : ℤ
 tooHigh = pos 4_000_000_001
 
+-- the control value that a quotient becomes; where it is refused, a number that none can be
+unfoldable pub keptOf : Float → ℤ
+keptOf q = valueOf (kept (nearFloat q))
+  where
+    valueOf : Option ℤ → ℤ
+    valueOf none = tooHigh
+    valueOf (some z) = z
+
 -- "Lattice 1 by 1", as stored: level ground, and a peak of the last control value
 abbrev level : List ℤ
 level = replicate 16 (pos 9)
@@ -107,16 +115,26 @@ seven k = pointRecord k (record { x = 0; y = 0; z = pos 7; q = 1 })
 
 unfoldable pub table : List Line
 table =
-    -- near(7/2) = 4, near(-7/2) = -3, near(-5/3) = -2
+    -- near(7/2) = 4, "near(-7/2) becomes -4", near(-5/3) = -2
     (near (pos 7) 2 is pos 4)
-    ∷ (near (negℤ (pos 7)) 2 is negℤ (pos 3))
+    ∷ (near (negℤ (pos 7)) 2 is negℤ (pos 4))
     ∷ (near (negℤ (pos 5)) 3 is negℤ (pos 2))
+    -- "an exact half to the even neighbour": 5/2, -5/2, 1/2 and -1/2, and beside a half 7/3 and 8/3; halves up 7/2, -7/2, and 5/2
+    ∷ (near (pos 5) 2 is pos 2)
+    ∷ (near (negℤ (pos 5)) 2 is negℤ (pos 2))
+    ∷ (near (pos 1) 2 is pos 0)
+    ∷ (near (negℤ (pos 1)) 2 is pos 0)
+    ∷ (near (pos 7) 3 is pos 2)
+    ∷ (near (pos 8) 3 is pos 3)
+    ∷ (nearUp (pos 7) 2 is pos 4)
+    ∷ (nearUp (negℤ (pos 7)) 2 is negℤ (pos 3))
+    ∷ (nearUp (pos 5) 2 is pos 3)
     -- E1 (0,0)=36: height at (0,0) is 16. E2 same, at (16,16): 1. E3 same, at (8,8): 8
     ∷ (heightOf (single 1 1 (pos 36)) 0 0 is pos 16)
     ∷ (heightOf (single 1 1 (pos 36)) 16 16 is pos 1)
     ∷ (heightOf (single 1 1 (pos 36)) 8 8 is pos 8)
-    -- E4 (-1,0)=3, at (0,0): 1. E5 (-1,0)=-3: 0
-    ∷ (heightOf (single 0 1 (pos 3)) 0 0 is pos 1)
+    -- "Example E4 becomes 0", (-1,0)=3 at (0,0). E5 (-1,0)=-3: 0
+    ∷ (heightOf (single 0 1 (pos 3)) 0 0 is pos 0)
     ∷ (heightOf (single 0 1 (negℤ (pos 3))) 0 0 is pos 0)
     -- E6 refine (0,0)=64: new (0,0) 36, (1,0) 24, (1,1) 16, (2,2) 1, (3,3) 0
     ∷ (refinedAt (single 1 1 (pos 64)) 0 0 is pos 36)
@@ -127,20 +145,35 @@ table =
     -- E7 refine (0,0)=1: only new (0,0) is 1
     ∷ (refinedAt (single 1 1 (pos 1)) 0 0 is pos 1)
     ∷ (pos (nonzero (single 1 1 (pos 1)) 25) is pos 1)
-    -- E8 (0,0)=-32: new (2,2) is 0
+    -- E8 (0,0)=-32: new (2,2) is 0, and so it is for 32; for 96 and -96 it is 2 and -2
     ∷ (refinedAt (single 1 1 (negℤ (pos 32))) 2 2 is pos 0)
-    -- slopes, (-1,-1)=3, at (0,0): near of its column, and of its row, is 1, so each is near of -1,000/32; without that first rounding it were -16
-    ∷ (slopeX 16 1 1 (single 0 0 (pos 3)) 0 0 is negℤ (pos 31))
-    ∷ (slopeY 16 1 1 (single 0 0 (pos 3)) 0 0 is negℤ (pos 31))
-    -- (-1,0)=3: the columns are 2 and 0, the rows 0, 1 and 0
+    ∷ (refinedAt (single 1 1 (pos 32)) 2 2 is pos 0)
+    ∷ (refinedAt (single 1 1 (pos 96)) 2 2 is pos 2)
+    ∷ (refinedAt (single 1 1 (negℤ (pos 96))) 2 2 is negℤ (pos 2))
+    -- slopes, (-1,-1)=9, at (0,0): near of its column, and of its row, is 2, so each is near of -125/2; without that first rounding it were -47. With 3 it is 0
+    ∷ (slopeX 16 1 1 (single 0 0 (pos 9)) 0 0 is negℤ (pos 62))
+    ∷ (slopeY 16 1 1 (single 0 0 (pos 9)) 0 0 is negℤ (pos 62))
+    ∷ (slopeX 16 1 1 (single 0 0 (pos 3)) 0 0 is pos 0)
+    -- (-1,0)=3 and -3: the columns are 2 and -2, the rows 0
     ∷ (slopeX 16 1 1 (single 0 1 (pos 3)) 0 0 is negℤ (pos 62))
+    ∷ (slopeX 16 1 1 (single 0 1 (negℤ (pos 3))) 0 0 is pos 62)
     ∷ (slopeY 16 1 1 (single 0 1 (pos 3)) 0 0 is pos 0)
-    -- bases: near of a mean of 1/2, of -1/2, of 2/3 and of -2/3, and of no heights
-    ∷ (base (pos 0 ∷ pos 1 ∷ []) is pos 1)
+    -- bases: near of a mean of 1/2, of -1/2, of 3/2, of -3/2, of 2/3 and of -2/3, and of no heights
+    ∷ (base (pos 0 ∷ pos 1 ∷ []) is pos 0)
     ∷ (base (negℤ (pos 1) ∷ pos 0 ∷ []) is pos 0)
+    ∷ (base (pos 2 ∷ pos 1 ∷ []) is pos 2)
+    ∷ (base (negℤ (pos 1) ∷ negℤ (pos 2) ∷ []) is negℤ (pos 2))
     ∷ (base (pos 1 ∷ pos 1 ∷ pos 0 ∷ []) is pos 1)
     ∷ (base (negℤ (pos 1) ∷ pos 0 ∷ negℤ (pos 1) ∷ []) is negℤ (pos 1))
     ∷ (base [] is pos 0)
+    -- quotients: of 1/2, 3/2 and -5/2; 4,000,000,000.5 and its negative, both accepted, and the next f64 on either side, refused
+    ∷ (keptOf (fin false 1 (negsuc 0)) is pos 0)
+    ∷ (keptOf (fin false 3 (negsuc 0)) is pos 2)
+    ∷ (keptOf (fin true 5 (negsuc 0)) is negℤ (pos 2))
+    ∷ (keptOf (fin false 8_000_000_001 (negsuc 0)) is pos 4_000_000_000)
+    ∷ (keptOf (fin true 8_000_000_001 (negsuc 0)) is negℤ (pos 4_000_000_000))
+    ∷ (keptOf (fin false 8_388_608_001_048_577 (negsuc 20)) is tooHigh)
+    ∷ (keptOf (fin true 8_388_608_001_048_577 (negsuc 20)) is tooHigh)
     -- "Step 0 now stands for 8": node 3 of two columns from (1, 2), at step 0 and at a given 16
     ∷ (pos (nodeX (nodes 1 2 0 2 2) 3) is pos 9)
     ∷ (pos (nodeY (nodes 1 2 0 2 2) 3) is pos 10)
@@ -214,5 +247,5 @@ table =
 
 -- the whole table, computed
 pub examples : T (allHold table)
-unfolding table allHold _is_ equal single heightOf refinedAt nonzero floor near square cube numerator denominator cell offset weighted along height masked finer finer2 refined slopeNumerator slopeDenominator slopeAlong slopeX slopeY total nearMean base defaultStep stepOf nodeX nodeY refusalOf posPart depth depths litres storage inRange within require _then_ firstOf rangeCheck countsCheck sideCheck pondCheck stageCheck heightsCheck storageCheck aboveOf anyOf above anyAbove control controls cellsCheck unitCheck latticeCheck sizeCheck nodeCheck nodesCheck aboveCheck answer aboveAnswer listsCheck pointsCheck pointCheck spotCheck inside confident columns rows cellsAt bytesOf numberOf complement uncomplement valueBytes numberAt valueAt same recordCheck PH PT PQ pointHead pointRecord pointStart fileShape filePoints kindOf fileX fileY fileZ lastNumber fileQ pointHeadCheck pointRecordCheck pointFileCheck grown noSums touched uses weight basis squares addSquares add mul div ofInt ofBits toBits digits
+unfolding table allHold _is_ equal single heightOf refinedAt nonzero floor nearUp nearDown even near square cube numerator denominator cell offset weighted along height masked finer finer2 refined slopeNumerator slopeDenominator slopeAlong slopeX slopeY total nearMean base signed nearFloat kept keptOf defaultStep stepOf nodeX nodeY refusalOf posPart depth depths litres storage inRange within require _then_ firstOf rangeCheck countsCheck sideCheck pondCheck stageCheck heightsCheck storageCheck aboveOf anyOf above anyAbove control controls cellsCheck unitCheck latticeCheck sizeCheck nodeCheck nodesCheck aboveCheck answer aboveAnswer listsCheck pointsCheck pointCheck spotCheck inside confident columns rows cellsAt bytesOf numberOf complement uncomplement valueBytes numberAt valueAt same recordCheck PH PT PQ pointHead pointRecord pointStart fileShape filePoints kindOf fileX fileY fileZ lastNumber fileQ pointHeadCheck pointRecordCheck pointFileCheck grown noSums touched uses weight basis squares addSquares add mul div ofInt ofBits toBits digits
 examples = tt

@@ -1,15 +1,17 @@
 -- The laws of floor and near, for any divisor d ≥ 1: their bounds, that these fix them, and what follows from near's distance alone.
-use mathlib.Core.Path.{_≡_, refl, sym, ap, subst}
-use mathlib.Core.Logic.{_↔_, Iff·symm, Iff·trans, inl, inr}
-use Prim.Native.Nat.{ℕ, _+_, _*_, _≤_, _<_, zero-le}
+use mathlib.Core.Path.{_≡_, refl, sym, ap, subst, _∙_}
+use mathlib.Core.Bool.{Bool, true, false, not, cond}
+use mathlib.Core.Logic.{_↔_, inl, inr}
+use Prim.Native.Nat.{ℕ, zero, suc, _+_, _*_, _%_, _≤_, _<_, zero-le}
 use native.Mathlib.Nat.{div-add-mod, mod-lt, div-div-eq-div-mul, le-of-mul-le-mul-left}
 use native.Mathlib.Omega.{arith}
 use native.Mathlib.Decide.{decLt}
-use lib.IntN.{ℤ, pos, negsuc, natAbs, _+ℤ_, _-ℤ_, _*ℤ_, +ℤ-idr, +ℤ-invr, *ℤ-comm}
+use lib.Dec.{T, eqb, eqb→eq}
+use lib.IntN.{ℤ, pos, negsuc, negℤ, natAbs, _+ℤ_, _-ℤ_, _*ℤ_, negℤ-negℤ, +ℤ-idr, +ℤ-invr, *ℤ-comm}
 use lib.Signed.{shrZ, _≤ℤ_, _<ℤ_, ≤ℤ-refl}
 use Rattle.algebra.specs.Difference.{split, whole}
-use Rattle.algebra.specs.Size.{≤ℤ-trans, ≤ℤ-<ℤ-trans, ≤ℤ-antisym, <ℤ-suc, suc-≤ℤ, ≡-or-<ℤ, ≤ℤ-scale, <ℤ-cancel, natAbs-sum, natAbs-product, same-of-natAbs}
-use Rattle.rules.specs.Rounding.{floor, near}
+use Rattle.algebra.specs.Size.{≤ℤ-trans, ≤ℤ-<ℤ-trans, ≤ℤ-antisym, <ℤ-suc, suc-≤ℤ, ≤ℤ-or-<ℤ, ≡-or-<ℤ, ≤ℤ-scale, <ℤ-cancel, natAbs-sum, natAbs-neg, natAbs-product, same-of-natAbs}
+use Rattle.rules.specs.Rounding.{floor, nearUp, nearDown, even, near}
 
 -- ---- floor
 
@@ -49,82 +51,167 @@ floor-unique v d n h f = ≤ℤ-antisym (below-floor v n d h .1 (f .low)) (below
 abbrev pub WithinHalf : ℤ → ℕ → ℤ → Type 0
 WithinHalf v d n = natAbs (pos 2 *ℤ (pos d *ℤ n -ℤ v)) ≤ d
 
--- where it is exactly a half away, n is the larger of the two such numbers
+-- the lowest digit of n: 0 if n is even, else 1
+abbrev pub odd : ℤ → ℕ
+odd n = natAbs n % 2
+
+-- where it is exactly a half away, n is the even one of the two such numbers
 unfoldable pub Tie : ℤ → ℕ → ℤ → Type 0
-Tie v d n = natAbs (pos 2 *ℤ (pos d *ℤ n -ℤ v)) ≡ d → v <ℤ (pos d *ℤ n)
+Tie v d n = natAbs (pos 2 *ℤ (pos d *ℤ n -ℤ v)) ≡ d → odd n ≡ 0
 
 -- n is the nearest whole number to v / d
 pub record Nearest (v : ℤ) (d : ℕ) (n : ℤ) : Type 0 where
   pub distance : WithinHalf v d n
   pub tie : Tie v d n
 
--- so v / d is below n + 1/2, and a number of which that is known meets the rule
-pub nearest-below : {v : ℤ} {d : ℕ} {n : ℤ} → 0 < d → Nearest v d n → (pos 2 *ℤ v) <ℤ ((pos 2 *ℤ n +ℤ pos 1) *ℤ pos d)
+-- what lies on the other side of 0 is as far away
+opposite-distance : (v n : ℤ) (d : ℕ) → natAbs (pos 2 *ℤ (pos d *ℤ negℤ n -ℤ negℤ v)) ≡ natAbs (pos 2 *ℤ (pos d *ℤ n -ℤ v))
+opposite-distance v n d = rw (split v, split n) (simp whole (omega arith))
+
+opposite-nearest : {v : ℤ} {d : ℕ} {n : ℤ} → Nearest v d n → Nearest (negℤ v) d (negℤ n)
 unfolding Tie
-nearest-below {v} {d} {n} h f = go (decLt (natAbs (pos 2 *ℤ (pos d *ℤ n -ℤ v))) d)
+opposite-nearest {v} {d} {n} f = record {
+  distance = rw (opposite-distance v n d) (f .distance);
+  tie = λ e. rw (natAbs-neg n) (f .tie (sym (opposite-distance v n d) ∙ e));
+}
+
+-- halves up: 2v + d over 2d lies from n on and below n + 1
+up-bound : (v : ℤ) (d : ℕ) → 0 < d → Floored (pos 2 *ℤ v +ℤ pos d) (2 * d) (nearUp v d)
+unfolding nearUp
+up-bound v d h = floor-bound (pos 2 *ℤ v +ℤ pos d) (2 * d) (omega arith)
+
+pub up-distance : (v : ℤ) (d : ℕ) → 0 < d → WithinHalf v d (nearUp v d)
+up-distance v d h = let f = up-bound v d h in close v (nearUp v d) (f .low) (f .high)
   where
-    less : (v n : ℤ) → natAbs (pos 2 *ℤ (pos d *ℤ n -ℤ v)) < d → (pos 2 *ℤ v) <ℤ ((pos 2 *ℤ n +ℤ pos 1) *ℤ pos d)
-    less v n = rw (split v, split n) (simp whole (omega arith))
-
-    tied : (v n : ℤ) → v <ℤ (pos d *ℤ n) → (pos 2 *ℤ v) <ℤ ((pos 2 *ℤ n +ℤ pos 1) *ℤ pos d)
-    tied v n = rw (split v, split n) (simp whole (omega arith))
-
-    go : Dec (natAbs (pos 2 *ℤ (pos d *ℤ n -ℤ v)) < d) → (pos 2 *ℤ v) <ℤ ((pos 2 *ℤ n +ℤ pos 1) *ℤ pos d)
-    go (yes l) = less v n l
-    go (no g) = tied v n (f .tie (omega (arith, f .distance)))
-
-pub below-tie : (v : ℤ) (d : ℕ) (n : ℤ) → 0 < d → (pos 2 *ℤ v) <ℤ ((pos 2 *ℤ n +ℤ pos 1) *ℤ pos d) → Tie v d n
-unfolding Tie
-below-tie v d n h = rw (split v, split n) (simp whole (omega arith))
-
--- which says that n is the floor of (2v + d) / 2d
-pub near-nearest : (v : ℤ) (d : ℕ) → 0 < d → Nearest v d (near v d)
-unfolding near
-near-nearest v d h = record { distance = close v (near v d) (f .low) (f .high); tie = below-tie v d (near v d) h (below v (near v d) (f .high)) }
-  where
-    f : Floored (pos 2 *ℤ v +ℤ pos d) (2 * d) (near v d)
-    f = floor-bound (pos 2 *ℤ v +ℤ pos d) (2 * d) (omega arith)
-
     close : (v n : ℤ) → (pos (2 * d) *ℤ n) ≤ℤ (pos 2 *ℤ v +ℤ pos d) → (pos 2 *ℤ v +ℤ pos d) <ℤ (pos (2 * d) *ℤ (n +ℤ pos 1)) → WithinHalf v d n
     close v n = rw (split v, split n) (simp whole (omega arith))
 
-    below : (v n : ℤ) → (pos 2 *ℤ v +ℤ pos d) <ℤ (pos (2 * d) *ℤ (n +ℤ pos 1)) → (pos 2 *ℤ v) <ℤ ((pos 2 *ℤ n +ℤ pos 1) *ℤ pos d)
-    below v n = rw (split v, split n) (simp whole (omega arith))
+down-distance : (v : ℤ) (d : ℕ) → 0 < d → WithinHalf v d (nearDown v d)
+unfolding nearDown
+down-distance v d h = let w = nearUp (negℤ v) d in rw (← opposite-distance v (negℤ w) d, negℤ-negℤ w) (up-distance (negℤ v) d h)
 
-pub nearest-unique : (v : ℤ) (d : ℕ) (n : ℤ) → 0 < d → Nearest v d n → n ≡ near v d
-unfolding near
-nearest-unique v d n h f =
-    floor-unique (pos 2 *ℤ v +ℤ pos d) (2 * d) n (omega arith) (record { low = low v n (f .distance); high = high v n (nearest-below h f) })
+-- where halves down is exactly a half away, halves up is 1 more, so that one of the two is even
+down-tie : (v : ℤ) (d : ℕ) → 0 < d → odd (nearUp v d) ≡ 1 → Tie v d (nearDown v d)
+unfolding Tie nearDown
+down-tie v d h =
+    let f = up-bound v d h in
+    let g = up-bound (negℤ v) d h in
+    λ up e.
+    let b = twice v u w (f .low) (f .high) (g .low) (g .high) e in
+    parity u w (<ℤ-cancel (2 * d) (pos 0) (u +ℤ w) (b .0)) (<ℤ-cancel (2 * d) (u +ℤ w) (pos 2) (b .1)) up
   where
-    low : (v n : ℤ) → WithinHalf v d n → (pos (2 * d) *ℤ n) ≤ℤ (pos 2 *ℤ v +ℤ pos d)
-    low v n = rw (split v, split n) (simp whole (omega arith))
+    u : ℤ
+    u = nearUp v d
 
-    high : (v n : ℤ) → (pos 2 *ℤ v) <ℤ ((pos 2 *ℤ n +ℤ pos 1) *ℤ pos d) → (pos 2 *ℤ v +ℤ pos d) <ℤ (pos (2 * d) *ℤ (n +ℤ pos 1))
-    high v n = rw (split v, split n) (simp whole (omega arith))
+    w : ℤ
+    w = nearUp (negℤ v) d
 
--- over an even divisor code adds its half, and takes the floor
-pub near-even : (v : ℤ) (d : ℕ) → 0 < d → near v (2 * d) ≡ floor (v +ℤ pos d) (2 * d)
-near-even v d h = sym (nearest-unique v (2 * d) n (omega arith) (record { distance = close v n (f .low) (f .high); tie = below-tie v (2 * d) n (omega arith) (below v n (f .high)) }))
+    twice : (v u w : ℤ) → (pos (2 * d) *ℤ u) ≤ℤ (pos 2 *ℤ v +ℤ pos d) → (pos 2 *ℤ v +ℤ pos d) <ℤ (pos (2 * d) *ℤ (u +ℤ pos 1))
+        → (pos (2 * d) *ℤ w) ≤ℤ (pos 2 *ℤ negℤ v +ℤ pos d) → (pos 2 *ℤ negℤ v +ℤ pos d) <ℤ (pos (2 * d) *ℤ (w +ℤ pos 1)) → natAbs (pos 2 *ℤ (pos d *ℤ negℤ w -ℤ v)) ≡ d
+        → ((pos (2 * d) *ℤ pos 0) <ℤ (pos (2 * d) *ℤ (u +ℤ w))) × ((pos (2 * d) *ℤ (u +ℤ w)) <ℤ (pos (2 * d) *ℤ pos 2))
+    twice v u w = rw (split v, split u, split w) (simp whole (omega arith))
+
+    parity : (u w : ℤ) → pos 0 <ℤ (u +ℤ w) → (u +ℤ w) <ℤ pos 2 → odd u ≡ 1 → odd (negℤ w) ≡ 0
+    parity u w = rw (split u, split w) (simp whole (omega arith))
+
+pub near-nearest : (v : ℤ) (d : ℕ) → 0 < d → Nearest v d (near v d)
+unfolding near even Tie
+near-nearest v d h = go (eqb (odd u) 0) (eqb→eq (odd u) 0) (λ t. not-zero (odd u) t (mod-lt (natAbs u) {m = 2} (omega arith)))
+  where
+    u : ℤ
+    u = nearUp v d
+
+    not-zero : (n : ℕ) → T (not (eqb n 0)) → n < 2 → n ≡ 1
+    not-zero zero t l = absurd t
+    not-zero (suc n) t l = omega arith
+
+    go : (b : Bool) → (T b → odd u ≡ 0) → (T (not b) → odd u ≡ 1) → Nearest v d (cond b u (nearDown v d))
+    go true f g = record { distance = up-distance v d h; tie = λ e. f tt }
+    go false f g = record { distance = down-distance v d h; tie = down-tie v d h (g tt) }
+
+-- of a number and the next one is odd
+two-even : (m n : ℤ) → m <ℤ n → n <ℤ (m +ℤ pos 2) → odd m ≡ 0 → odd n ≡ 0 → ⊥
+two-even m n = rw (split m, split n) (simp whole (omega arith))
+
+-- two numbers no more than a half away differ by 1 at most, and then both are exactly a half away and cannot both be even
+not-two : {v : ℤ} {d : ℕ} {m n : ℤ} → 0 < d → Nearest v d m → Nearest v d n → n ≤ℤ m
+unfolding Tie
+not-two {v} {d} {m} {n} h f g = elim (≤ℤ-or-<ℤ n m) [
+  | inl l ↦ l
+  | inr k ↦ let a = apart v m n (≤ℤ-scale d (suc-≤ℤ m n .1 k)) (f .distance) (g .distance) in absurd (two-even m n k (<ℤ-cancel d n (m +ℤ pos 2) (a .2)) (f .tie (a .0)) (g .tie (a .1)))
+]
+  where
+    apart : (v m n : ℤ) → (pos d *ℤ (m +ℤ pos 1)) ≤ℤ (pos d *ℤ n) → WithinHalf v d m → WithinHalf v d n
+        → (natAbs (pos 2 *ℤ (pos d *ℤ m -ℤ v)) ≡ d) × (natAbs (pos 2 *ℤ (pos d *ℤ n -ℤ v)) ≡ d) × ((pos d *ℤ n) <ℤ (pos d *ℤ (m +ℤ pos 2)))
+    apart v m n = rw (split v, split m, split n) (simp whole (omega arith))
+
+-- so that the distance and the tie rule fix near
+pub nearest-unique : (v : ℤ) (d : ℕ) (n : ℤ) → 0 < d → Nearest v d n → n ≡ near v d
+nearest-unique v d n h f = let g = near-nearest v d h in ≤ℤ-antisym (not-two h g f) (not-two h f g)
+
+pub near-odd : (v : ℤ) (d : ℕ) → 0 < d → near (negℤ v) d ≡ negℤ (near v d)
+near-odd v d h = sym (nearest-unique (negℤ v) d (negℤ (near v d)) h (opposite-nearest (near-nearest v d h)))
+
+-- Over an even divisor code adds its half, less a digit b, and takes the floor. At an exact half, where v + d is 2d · n, b is to say whether n is odd.
+pub near-even : (v : ℤ) (d b : ℕ) → 0 < d → b ≤ 1 → ((n : ℤ) → v +ℤ pos d ≡ pos (2 * d) *ℤ n → b ≡ odd n) → near v (2 * d) ≡ floor (v +ℤ (pos d -ℤ pos b)) (2 * d)
+unfolding Tie
+near-even v d b h l at-half = sym (nearest-unique v (2 * d) n (omega arith) (record { distance = close v n (f .low) (f .high); tie = tied (decLt b 1) }))
   where
     n : ℤ
-    n = floor (v +ℤ pos d) (2 * d)
+    n = floor (v +ℤ (pos d -ℤ pos b)) (2 * d)
 
-    f : Floored (v +ℤ pos d) (2 * d) n
-    f = floor-bound (v +ℤ pos d) (2 * d) (omega arith)
+    f : Floored (v +ℤ (pos d -ℤ pos b)) (2 * d) n
+    f = floor-bound (v +ℤ (pos d -ℤ pos b)) (2 * d) (omega arith)
 
-    close : (v n : ℤ) → (pos (2 * d) *ℤ n) ≤ℤ (v +ℤ pos d) → (v +ℤ pos d) <ℤ (pos (2 * d) *ℤ (n +ℤ pos 1)) → WithinHalf v (2 * d) n
+    close : (v n : ℤ) → (pos (2 * d) *ℤ n) ≤ℤ (v +ℤ (pos d -ℤ pos b)) → (v +ℤ (pos d -ℤ pos b)) <ℤ (pos (2 * d) *ℤ (n +ℤ pos 1)) → WithinHalf v (2 * d) n
     close v n = rw (split v, split n) (simp whole (omega arith))
 
-    below : (v n : ℤ) → (v +ℤ pos d) <ℤ (pos (2 * d) *ℤ (n +ℤ pos 1)) → (pos 2 *ℤ v) <ℤ ((pos 2 *ℤ n +ℤ pos 1) *ℤ pos (2 * d))
+    below : (v n : ℤ) → b < 1 → (v +ℤ (pos d -ℤ pos b)) <ℤ (pos (2 * d) *ℤ (n +ℤ pos 1)) → natAbs (pos 2 *ℤ (pos (2 * d) *ℤ n -ℤ v)) ≡ 2 * d → v +ℤ pos d ≡ pos (2 * d) *ℤ n
     below v n = rw (split v, split n) (simp whole (omega arith))
 
--- it is above z exactly from v / d = z + 1/2 on
-pub near-above : (v z : ℤ) (d : ℕ) → 0 < d → (z <ℤ near v d) ↔ ((pos (2 * d) *ℤ z +ℤ pos d) ≤ℤ (pos 2 *ℤ v))
-unfolding near
-near-above v z d h = Iff·trans (Iff·symm (suc-≤ℤ z _)) (Iff·trans (below-floor (pos 2 *ℤ v +ℤ pos d) (z +ℤ pos 1) (2 * d) (omega arith)) (half v z))
+    above : (v n : ℤ) → 1 ≤ b → (pos (2 * d) *ℤ n) ≤ℤ (v +ℤ (pos d -ℤ pos b)) → natAbs (pos 2 *ℤ (pos (2 * d) *ℤ n -ℤ v)) ≡ 2 * d → v +ℤ pos d ≡ pos (2 * d) *ℤ (n +ℤ pos 1)
+    above v n = rw (split v, split n) (simp whole (omega arith))
+
+    before : (n : ℤ) → odd (n +ℤ pos 1) ≡ 1 → odd n ≡ 0
+    before n = rw (split n) (simp whole (omega arith))
+
+    tied : Dec (b < 1) → natAbs (pos 2 *ℤ (pos (2 * d) *ℤ n -ℤ v)) ≡ 2 * d → odd n ≡ 0
+    tied (yes k) e = sym (at-half n (below v n k (f .high) e)) ∙ omega arith
+    tied (no k) e = before n (sym (at-half (n +ℤ pos 1) (above v n (omega arith) (f .low) e)) ∙ omega arith)
+
+-- it is above z past v / d = z + 1/2, and at that exactly if z is odd
+pub near-above : (v z : ℤ) (d : ℕ) → 0 < d → (z <ℤ near v d) ↔ ((pos (2 * d) *ℤ z +ℤ (pos d -ℤ pos (odd z))) <ℤ (pos 2 *ℤ v))
+unfolding Tie
+near-above v z d h = (
+  λ k. elim (≤ℤ-or-<ℤ (pos 2 *ℤ v) bound) [
+    | inl l ↦ let a = over v n z (odd z) (≤ℤ-scale d (suc-≤ℤ z n .1 k)) l (f .distance) in absurd (two-even z n k (<ℤ-cancel d n (z +ℤ pos 2) (a .2)) (a .0) (f .tie (a .1)))
+    | inr l ↦ l
+  ],
+  λ k. elim (≤ℤ-or-<ℤ n z) [
+    | inl l ↦ let a = under v n z (odd z) (mod-lt (natAbs z) {m = 2} (omega arith)) (≤ℤ-scale d l) k (f .distance) in absurd (one-odd n z l (<ℤ-cancel d z (n +ℤ pos 1) (a .2)) (f .tie (a .1)) (a .0))
+    | inr l ↦ l
+  ],
+)
   where
-    half : (v z : ℤ) → ((pos (2 * d) *ℤ (z +ℤ pos 1)) ≤ℤ (pos 2 *ℤ v +ℤ pos d)) ↔ ((pos (2 * d) *ℤ z +ℤ pos d) ≤ℤ (pos 2 *ℤ v))
-    half v z = rw (split v, split z) (simp whole (omega arith))
+    n : ℤ
+    n = near v d
+
+    bound : ℤ
+    bound = pos (2 * d) *ℤ z +ℤ (pos d -ℤ pos (odd z))
+
+    f : Nearest v d n
+    f = near-nearest v d h
+
+    over : (v n z : ℤ) (b : ℕ) → (pos d *ℤ (z +ℤ pos 1)) ≤ℤ (pos d *ℤ n) → (pos 2 *ℤ v) ≤ℤ (pos (2 * d) *ℤ z +ℤ (pos d -ℤ pos b)) → WithinHalf v d n
+        → (b ≡ 0) × (natAbs (pos 2 *ℤ (pos d *ℤ n -ℤ v)) ≡ d) × ((pos d *ℤ n) <ℤ (pos d *ℤ (z +ℤ pos 2)))
+    over v n z b = rw (split v, split n, split z) (simp whole (omega arith))
+
+    under : (v n z : ℤ) (b : ℕ) → b < 2 → (pos d *ℤ n) ≤ℤ (pos d *ℤ z) → (pos (2 * d) *ℤ z +ℤ (pos d -ℤ pos b)) <ℤ (pos 2 *ℤ v) → WithinHalf v d n
+        → (b ≡ 1) × (natAbs (pos 2 *ℤ (pos d *ℤ n -ℤ v)) ≡ d) × ((pos d *ℤ z) <ℤ (pos d *ℤ (n +ℤ pos 1)))
+    under v n z b = rw (split v, split n, split z) (simp whole (omega arith))
+
+    one-odd : (m n : ℤ) → m ≤ℤ n → n <ℤ (m +ℤ pos 1) → odd m ≡ 0 → odd n ≡ 1 → ⊥
+    one-odd m n = rw (split m, split n) (simp whole (omega arith))
 
 -- ---- what follows from the distance alone, however an exact half is treated
 
