@@ -1,31 +1,22 @@
 -- What an accepted height promises beyond its equation with the rules: it is in range, and within one micrometre of the exact surface.
 use mathlib.Core.Path.{_≡_, sym, _∙_}
-use mathlib.Core.Bool.{_&&_, _||_}
+use mathlib.Core.Bool.{_&&_}
 use mathlib.Core.Option.{none}
 use mathlib.Core.List.{List}
-use Prim.Native.Nat.{ℕ, zero, suc, _*_, _≤_, _<_}
-use native.Mathlib.Omega.{arith}
-use lib.Dec.{T, leb, eqb, leb→le}
+use Prim.Native.Nat.{ℕ, _*_, _≤_}
+use lib.Dec.{leb, leb→le}
 use lib.IntN.{ℤ, pos, natAbs, _-ℤ_, _*ℤ_}
 use lib.ListN.{length}
 use mir.Facts.{and-yes}
 use Rattle.rules.specs.Grid.{limit, inside, controls, control}
 use Rattle.rules.specs.Surface.{surface, height}
-use Rattle.rules.specs.Answers.{require, short, position, unit, accepted}
+use Rattle.rules.specs.Answers.{require, short, position, accepted}
 use Rattle.rules.specs.Calls.{cellsCheck, unitCheck, latticeCheck, heightCheck, heightAnswer}
 use Rattle.rules.specs.Laws.Checks.{required, then-both, then-rest, answer-none, answer-value}
 use Rattle.rules.specs.Laws.Surface.{Inside, Bounded, full, control-within, height-within, height-distance}
-use Rattle.rules.specs.Laws.Passed.{cells-passed, lattice-passed}
+use Rattle.rules.specs.Laws.Passed.{cells-passed, unit-positive, lattice-passed}
 use Rattle.heights.specs.Reading.{told}
 use Rattle.heights.specs.declared.Reading.{Reading}
-
-unit-positive : (U : ℕ) → unitCheck U ≡ none → 0 < U
-unfolding unitCheck
-unit-positive U e = listed U (required (eqb U 16 || eqb U 32 || eqb U 64 || eqb U 128 || eqb U 256 || eqb U 512) unit e)
-  where
-    listed : (U : ℕ) → T (eqb U 16 || eqb U 32 || eqb U 64 || eqb U 128 || eqb U 256 || eqb U 512) → 0 < U
-    listed zero t = absurd t
-    listed (suc n) t = omega arith
 
 -- what the checks of a height leave: a position on the lattice, whose control values are in range
 pub height-passed : (m n U : ℕ) (l : List ℤ) (x y : ℕ) → heightCheck m n U l x y ≡ none → Inside U m n x y × Bounded m n (control m l) limit

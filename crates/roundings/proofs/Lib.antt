@@ -1,4 +1,4 @@
-pub mod Halved
+pub mod Counted
+pub mod Lifted
 pub mod Powers
 pub mod Quotient
-pub mod Over

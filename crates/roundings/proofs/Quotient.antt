@@ -1,10 +1,10 @@
 -- The floor of v / d by a quotient toward zero: of v itself from 0 on, and of v - (d - 1) below 0.
 use mathlib.Core.Path.{_≡_, refl, ap, _∙_}
-use Prim.Native.Nat.{ℕ, suc, _+_, _-_, _*_, _/_, _≤_}
-use native.Mathlib.Nat.{mul-add-div-right}
+use Prim.Native.Nat.{ℕ, suc, _+_, _-_, _*_, _/_, _≤_, suc-le-suc}
+use native.Mathlib.Nat.{mul-add-div-right, div-le-self, le-trans}
 use native.Mathlib.Omega.{arith}
 use lib.Dec.{ltb→lt}
-use lib.IntN.{ℤ, pos, negsuc, _-ℤ_}
+use lib.IntN.{ℤ, pos, negsuc, natAbs, _-ℤ_}
 use lib.Signed.{quotZ, _≤ℤ_, _<ℤ_}
 use Rattle.algebra.specs.Difference.{whole}
 use Rattle.rules.specs.Rounding.{floor}
@@ -21,3 +21,8 @@ pub above : (v : ℤ) (d : ℕ) → pos 0 ≤ℤ v → quotZ v (pos d) ≡ floor
 unfolding floor
 above (pos a) d h = refl
 above (negsuc a) d h = absurd (h .le)
+
+pub floor-size : (v : ℤ) (d : ℕ) {B : ℕ} → natAbs v ≤ B → natAbs (floor v d) ≤ B
+unfolding floor
+floor-size (pos a) d h = le-trans (div-le-self a d) h
+floor-size (negsuc a) d h = le-trans (suc-le-suc (div-le-self a d)) h

@@ -2,36 +2,30 @@
 // a shift, and 6U³ = 3·2^(3e+1) by a shift and a division by 3.
 ghost use mathlib.Core.Path.{_≡_};
 ghost use mathlib.Core.Logic.{_↔_};
-ghost use Prim.Native.Nat.{_^_, _≤_};
-ghost use lib.IntN.{ℤ, natAbs};
+ghost use Prim.Native.Nat.{_+_, _/_, _%_, _^_, _≤_, _<_};
+ghost use lib.IntN.{ℤ, pos, natAbs};
 ghost use lib.Signed.{_<ℤ_};
 ghost use Rattle.rules.specs.Rounding.{floor, near};
 ghost use Rattle.rules.specs.Surface.{denominator};
 ghost use Rattle.rules.specs.Slope.{slopeDenominator};
+ghost use Rattle.rules.specs.Laws.Rounding.{odd};
 
-// near(v / 2^s)
+// What both roundings by a shift do: w, which has half of the divisor in it, less 1, is divided by 2^s. At an exact half w is 1 below the next multiple,
+// and the lowest digit of its quotient takes it there if that quotient is odd: so a half goes to the even one of the two, and nothing else moves.
+fn to_even(w: u64, s: u32) -> u64
+    requires { ⌜ (w < 9_223_372_036_854_775_808) × (s ≤ 28) ⌝ }
+    ensures { λ r. ⌜ r ≡ (w + w / 2 ^ s % 2) / 2 ^ s ⌝ }
+{
+    (w + ((w >> s) & 1)) >> s
+}
+
+// near(v / 2^s). 2^62 is added first, so that nothing below 0 is shifted, and the compiler can take two values at a time.
 pub fn near_shift(v: i64, s: u32) -> i64
     requires { ⌜ (natAbs v ≤ 3_300_000_000_000_000_000) × (1 ≤ s) × (s ≤ 28) ⌝ }
     ensures { λ r. ⌜ r ≡ near v (2 ^ s) ⌝ }
 {
-    (v + (1 << (s - 1))) >> s
-}
-
-// floor(v / 3). 3·2^60 is added first, so that nothing below 0 is divided: what a fit reads lies on both sides of its base, and a test of the sign would be
-// mispredicted half the time.
-fn third(v: i64) -> i64
-    requires { ⌜ natAbs v ≤ 3_400_000_000_000_000_000 ⌝ }
-    ensures { λ r. ⌜ r ≡ floor v 3 ⌝ }
-{
-    ((v + 3_458_764_513_820_540_928) as u64 / 3) as i64 - 1_152_921_504_606_846_976
-}
-
-// floor(v / 3), by a test of the sign, which the compiler would make a choice without one of floor_over(v, 3)
-fn third_tested(v: i64) -> i64
-    requires { ⌜ natAbs v ≤ 4_611_686_018_427_387_904 ⌝ }
-    ensures { λ r. ⌜ r ≡ floor v 3 ⌝ }
-{
-    if v < 0 { (v - 2) / 3 } else { v / 3 }
+    let w = (v + (4_611_686_018_427_387_903 + (1 << (s - 1)))) as u64;
+    to_even(w, s) as i64 - (1 << (62 - s))
 }
 
 // floor(v / d)
@@ -43,39 +37,41 @@ fn floor_over(v: i64, d: usize) -> i64
     if v < 0 { (v - (by - 1)) / by } else { v / by }
 }
 
-// near(v / d), for any d
+// The lowest digit of v: 0 if it is even, else 1.
+fn lowest(v: i64) -> i64
+    requires { ⌜ natAbs v ≤ 2_000_000_000_000_000_000 ⌝ }
+    ensures { λ r. ⌜ r ≡ pos (odd v) ⌝ }
+{
+    v - 2 * (v >> 1)
+}
+
+// near(v / d), for any d: the floor of (2v + d) / 2d, less 1 / 2d if the floor of v / d is even, which is then where an exact half goes.
 pub fn near_any(v: i64, d: usize) -> i64
     requires { ⌜ (natAbs v ≤ 2_000_000_000_000_000_000) × (1 ≤ d) × (d ≤ 2_147_483_648) ⌝ }
     ensures { λ r. ⌜ r ≡ near v d ⌝ }
 {
-    floor_over(2 * v + d as i64, 2 * d)
+    let half = d as i64 - 1 + lowest(floor_over(v, d));
+    floor_over(2 * v + half, 2 * d)
 }
 
-// near(v / 6U³)
+// near(v / 6U³). 3·2^60 is added first, so that nothing below 0 is divided: what a fit reads lies on both sides of its base, and a test of the sign would be
+// mispredicted half the time.
 pub fn near_over(v: i64, e: u32) -> i64
     requires { ⌜ (natAbs v ≤ 3_221_225_472_000_000_000) × (e ≤ 9) ⌝ }
     ensures { λ r. ⌜ r ≡ near v (denominator (2 ^ e)) ⌝ }
 {
     let s = 3 * e;
-    third((v + (3 << s)) >> (s + 1))
+    let w = (v + (3_458_764_513_820_540_927 + (3 << s))) as u64;
+    (to_even(w, s + 1) / 3) as i64 - (1 << (59 - s))
 }
 
-// The same, by a test of the sign: a step shorter, and as good for the nodes of a raster, which have one sign for long.
-pub fn near_over_tested(v: i64, e: u32) -> i64
-    requires { ⌜ (natAbs v ≤ 3_221_225_472_000_000_000) × (e ≤ 9) ⌝ }
-    ensures { λ r. ⌜ r ≡ near v (denominator (2 ^ e)) ⌝ }
-{
-    let s = 3 * e;
-    third_tested((v + (3 << s)) >> (s + 1))
-}
-
-// The greatest v for which near(v / 6U³) is not above z: a test of v spares the rounding.
+// The greatest v for which near(v / 6U³) is not above z, that at the half if z is even: a test of v spares the rounding.
 pub fn most_under(z: i64, e: u32) -> i64
     requires { ⌜ (natAbs z ≤ 4_000_000_000) × (e ≤ 9) ⌝ }
     ensures { λ r. ⌜ ((v : ℤ) → (z <ℤ near v (denominator (2 ^ e))) ↔ (r <ℤ v)) ⌝ }
 {
     let half = 3 << (3 * e);
-    2 * half * z + (half - 1)
+    2 * half * z + (half - lowest(z))
 }
 
 // near(v / 2U³)

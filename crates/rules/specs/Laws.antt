@@ -1,5 +1,6 @@
 pub mod Basis
 pub mod Floats
+pub mod Opposite
 pub mod Bytes
 pub mod Checks
 pub mod Passed
@@ -16,6 +17,7 @@ pub mod Base
 pub mod Levels
 pub mod Distance
 pub mod Confidence
+pub mod Negation
 pub mod LatticeFile
 pub mod PointFields
 pub mod PointFile

@@ -1,56 +1,110 @@
--- `roundings::near_over` meets its contract.
-use mathlib.Core.Path.{ap, _∙_}
-use Prim.Native.Nat.{_+_, _*_}
+-- `roundings::near_over` meets its contract: the lift is 3·2^60.
+use mathlib.Core.Path.{_≡_, sym, ap, ap₂, _∙_}
+use Prim.Native.Nat.{ℕ, _+_, _-_, _*_, _/_, _%_, _^_, _≤_}
+use native.Mathlib.Nat.{one-mul}
 use native.Mathlib.Omega.{arith}
 use borrow.Author.Needs.{needs}
-use Rattle.machine.specs.Held.{fits, small, returned}
-use Rattle.rules.specs.Rounding.{floor}
-use Rattle.roundings.proofs.Halved.{sum, over, floored}
-use Rattle.roundings.proofs.Over.{over-thirds}
+use lib.IntN.{pos, natAbs, _-ℤ_}
+use lib.Pow.{pow-add, pow-mono}
+use Rattle.machine.specs.Held.{Number, number, cast, cast-low, read, minus, fits}
+use Rattle.rules.specs.Rounding.{near}
+use Rattle.rules.specs.Surface.{denominator}
+use Rattle.roundings.proofs.Counted.{Counted, lift, sum, count, not-below, count-size, count-near, quotient-size}
+use Rattle.roundings.proofs.Powers.{denominator-power}
 use Rattle.roundings.proofs.near_over.Statement.{statement}
 use Rattle.roundings.proofs.near_over.Tie as tie
 
+-- ---- the code's expressions
+
+counted : (c : tie.Start) → Counted (c .args .v) 3 (3 * c .args .e) 3_458_764_513_820_540_927
+counted c = record { size = omega (arith, c .pre .0); few = omega arith; low = omega (arith, c .pre .1); least = omega arith; most = omega arith }
+
+abbrev w : tie.Start → ℕ
+w c = natAbs (count (counted c) .code)
+
+near-is : (c : tie.Start) → let p = 2 ^ (3 * c .args .e + 1) in pos ((w c + w c / p % 2) / p / 3) -ℤ pos (1 * 2 ^ (59 - 3 * c .args .e)) ≡ near (c .args .v) (denominator (2 ^ c .args .e))
+near-is c =
+    let s = 3 * c .args .e in
+    let i = 59 - s in
+    let sum : s + 1 + i ≡ 60 = omega (arith, c .pre .1) in
+    let all : 3 * (2 ^ (s + 1) * 2 ^ i) ≡ 3_458_764_513_820_540_928 = ap (λ q. 3 * q) (sym (pow-add 2 (s + 1) i) ∙ ap (λ n. 2 ^ n) sum) in
+    ap (λ l. pos ((w c + w c / 2 ^ (s + 1) % 2) / 2 ^ (s + 1) / 3) -ℤ pos l) (one-mul (2 ^ i))
+    ∙ count-near (counted c) i (omega (arith, c .pre .1)) (omega arith) (λ n. omega arith) all
+    ∙ ap (near (c .args .v)) (sym (denominator-power (c .args .e)))
+
+module _ (c : tie.After-to-even) where
+  quotient-most : c .to-even .result / 3 ≤ 1_318_614_336_471_673_514
+  quotient-most =
+      let p = 2 ^ (3 * c .before .args .e + 1) in
+      let most : c .to-even .result ≤ 3_955_843_009_415_020_544 = rw (c .to-even .ensures) (quotient-size (w (c .before)) p (pow-mono {i = 1} (omega arith)) (count-size (counted (c .before)))) in
+      omega arith
+
+  abbrev result : Number
+  result =
+      number
+      (minus (cast (c .to-even .result / 3) 1_318_614_336_471_673_514 quotient-most tt) (cast-low (1 * 2 ^ (59 - 3 * c .before .args .e)) (1 * 2 ^ 59) (omega (arith, pow-mono {i = 59 - 3 * c .before .args .e} {j = 59} (omega arith))) tt))
+
+-- ---- what it returns
+
 returns : tie.Need-returns
-returns c =
-    let a = c .before .args in
-    returned (c .third .ok) (c .third .ensures)
-    ∙ ap (λ z. floor z 3) (floored (a .v) 3 (3 * a .e) (omega arith) (omega arith) (omega arith) (3 * a .e + 1))
-    ∙ over-thirds (a .v) (a .e)
+returns c = read tt (result c .held) .is ∙ ap (λ r. pos (r / 3) -ℤ pos (1 * 2 ^ (59 - 3 * c .before .args .e))) (c .to-even .ensures) ∙ near-is (c .before)
+
+-- ---- nothing wraps
 
 mul-s : tie.Need-mul-s
 mul-s c = search needs
 
-cast-third : tie.Need-cast-third
-cast-third c = search needs
+cast-w : tie.Need-cast-w
+cast-w c = search needs
 
-shl-third : tie.Need-shl-third
-shl-third c = search needs
+shl-w : tie.Need-shl-w
+shl-w c = search needs
 
-add-third : tie.Need-add-third
-add-third c = fits tt (sum (c .args .v) 3 (3 * c .args .e) (omega arith) (omega arith) (omega arith) .held)
+add-w : tie.Need-add-w
+add-w c = fits tt (lift (counted c) .held)
 
-add-third-2 : tie.Need-add-third-2
-add-third-2 c = search needs
+add-w-2 : tie.Need-add-w-2
+add-w-2 c = fits tt (sum (counted c) .held)
 
-cast-third-2 : tie.Need-cast-third-2
-cast-third-2 c = search needs
+cast-w-2 : tie.Need-cast-w-2
+cast-w-2 c = (not-below (counted c), omega (arith, count-size (counted c)))
 
-shr-third : tie.Need-shr-third
-shr-third c = search needs
+add-to-even : tie.Need-add-to-even
+add-to-even c = search needs
 
-third-requires : tie.Need-third-requires
-third-requires c κs = small 3_400_000_000_000_000_000 tt (over (c .args .v) 3 (3 * c .args .e) (omega arith) (omega arith) (omega arith) (3 * c .args .e + 1) .held)
+to-even-requires : tie.Need-to-even-requires
+to-even-requires c κs = (omega (arith, count-size (counted c)), omega (arith, c .pre .1))
+
+cast-result : tie.Need-cast-result
+cast-result c = search needs
+
+sub-result : tie.Need-sub-result
+sub-result c = search needs
+
+cast-result-2 : tie.Need-cast-result-2
+cast-result-2 c = search needs
+
+shl-result : tie.Need-shl-result
+shl-result c = search needs
+
+sub-result-2 : tie.Need-sub-result-2
+sub-result-2 c = fits tt (result c .held)
 
 pub near-over-spec : {M : Type 1} → statement M
 near-over-spec =
     tie.close
     (tie.spec
     mul-s
-    cast-third
-    shl-third
-    add-third
-    add-third-2
-    cast-third-2
-    shr-third
-    third-requires
+    cast-w
+    shl-w
+    add-w
+    add-w-2
+    cast-w-2
+    add-to-even
+    to-even-requires
+    cast-result
+    sub-result
+    cast-result-2
+    shl-result
+    sub-result-2
     returns)

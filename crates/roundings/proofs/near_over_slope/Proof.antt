@@ -1,19 +1,13 @@
 -- `roundings::near_over_slope` meets its contract: 2U³ is the power of two that the shift divides by.
-use mathlib.Core.Path.{_≡_, ap, _∙_}
-use Prim.Native.Nat.{ℕ, _+_, _*_, _^_}
+use mathlib.Core.Path.{ap, _∙_}
+use Prim.Native.Nat.{_+_, _*_, _^_}
 use native.Mathlib.Omega.{arith}
 use borrow.Author.Needs.{needs}
-use lib.Pow.{pow-add}
 use Rattle.machine.specs.Held.{Number, number, itself, read, small, returned}
 use Rattle.rules.specs.Rounding.{near}
-use Rattle.rules.specs.Slope.{slopeDenominator}
-use Rattle.roundings.proofs.Powers.{cubed}
+use Rattle.roundings.proofs.Powers.{slope-power}
 use Rattle.roundings.proofs.near_over_slope.Statement.{statement}
 use Rattle.roundings.proofs.near_over_slope.Tie as tie
-
-power-is : (e : ℕ) → 2 ^ (3 * e + 1) ≡ slopeDenominator (2 ^ e)
-unfolding slopeDenominator
-power-is e = pow-add 2 (3 * e) 1 ∙ rw (cubed e) (omega arith)
 
 abbrev sum : tie.Start → Number
 sum c = number (read tt (itself (c .args .v) 3_221_225_472_000_000_000 (c .pre .0)))
@@ -30,7 +24,7 @@ near-shift-requires c κs = (small 3_300_000_000_000_000_000 tt (sum c .held), o
 returns : tie.Need-returns
 returns c =
     let a = c .before .args in
-    returned (c .near-shift .ok) (c .near-shift .ensures) ∙ ap (λ v. near v (2 ^ (3 * a .e + 1))) (sum (c .before) .held .is) ∙ ap (near (a .v)) (power-is (a .e))
+    returned (c .near-shift .ok) (c .near-shift .ensures) ∙ ap (λ v. near v (2 ^ (3 * a .e + 1))) (sum (c .before) .held .is) ∙ ap (near (a .v)) (slope-power (a .e))
 
 pub near-over-slope-spec : {M : Type 1} → statement M
 near-over-slope-spec =

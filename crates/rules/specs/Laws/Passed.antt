@@ -1,7 +1,7 @@
 -- What checks that refuse nothing have shown: the bounds that a call goes on with.
-use Prim.Native.Nat.{ℕ, _+_, _*_, _%_, _^_, _≤_, _<_}
+use Prim.Native.Nat.{ℕ, zero, suc, _+_, _*_, _%_, _^_, _≤_, _<_}
 use mathlib.Core.Path.{_≡_, refl, sym, _∙_}
-use mathlib.Core.Bool.{_&&_}
+use mathlib.Core.Bool.{_&&_, _||_}
 use mathlib.Core.Option.{none, some}
 use mathlib.Core.List.{List}
 use native.Mathlib.Nat.{lt-of-le-of-lt, mod-eq-of-lt, mul-pos, mul-le-mul, one-le-pow}
@@ -14,13 +14,13 @@ use mir.Facts.{and-yes, yes-and}
 use Rattle.algebra.specs.Table.{over}
 use Rattle.rules.specs.Grid.{limit, within, inRange, confident, inside, cellsAt, controls}
 use Rattle.rules.specs.Fit.{Shape, Survey, pointCount, pointAt, differences, fromBase, singleLattice, differenceCheck}
-use Rattle.rules.specs.Answers.{Refusal, Check, cells, levels, lists, position, range, confidence, difference, size, accepted, refused}
-use Rattle.rules.specs.Calls.{countsCheck, cellsCheck, hCheck, listsCheck, stageCheck, latticeCheck, spotCheck, pointCheck, pointsCheck, surveyCheck}
+use Rattle.rules.specs.Answers.{Refusal, Check, cells, levels, unit, lists, position, range, confidence, difference, size, accepted, refused}
+use Rattle.rules.specs.Calls.{countsCheck, cellsCheck, unitCheck, hCheck, listsCheck, stageCheck, latticeCheck, spotCheck, pointCheck, pointsCheck, surveyCheck}
 use Rattle.rules.specs.Calls.{CellCounts, Lent, fitCheck, finest, results, cleared, fitEnd, fitCall}
 use Rattle.rules.specs.Laws.Base.{length-differences}
 use Rattle.rules.specs.Laws.Checks.{required, require-met, within-bounds, bounds-within, then-first, then-rest, then-none, firstOf-none, firstOf-all, AllInRange, inRange-size, size-inRange, rangeCheck-size}
 
--- ---- cell counts
+-- ---- cell counts, and U
 
 -- 1 to `most` cells a side
 abbrev pub Sides : ℕ → ℕ → ℕ → Type 0
@@ -38,6 +38,14 @@ pub sides-pass : (most m n : ℕ) → Sides most m n → cellsCheck most m n ≡
 unfolding cellsCheck
 sides-pass most m n c =
     require-met _ _ (yes-and (within 1 most m) (within 1 most n) (bounds-within 1 most m (c .0, c .1)) (bounds-within 1 most n (c .2, c .3)))
+
+pub unit-positive : (U : ℕ) → unitCheck U ≡ none → 0 < U
+unfolding unitCheck
+unit-positive U e = listed U (required (eqb U 16 || eqb U 32 || eqb U 64 || eqb U 128 || eqb U 256 || eqb U 512) unit e)
+  where
+    listed : (U : ℕ) → T (eqb U 16 || eqb U 32 || eqb U 64 || eqb U 128 || eqb U 256 || eqb U 512) → 0 < U
+    listed zero t = absurd t
+    listed (suc n) t = omega arith
 
 -- 16 coarsest cells become 512 in 5 levels
 pub cellsAt-most : (m0 k : ℕ) → m0 ≤ 16 → k ≤ 5 → cellsAt m0 k ≤ 512

@@ -152,6 +152,20 @@ nearest-unique v d n h f = let g = near-nearest v d h in ≤ℤ-antisym (not-two
 pub near-odd : (v : ℤ) (d : ℕ) → 0 < d → near (negℤ v) d ≡ negℤ (near v d)
 near-odd v d h = sym (nearest-unique (negℤ v) d (negℤ (near v d)) h (opposite-nearest (near-nearest v d h)))
 
+-- twice a number over twice a divisor
+pub near-double : (v : ℤ) (d : ℕ) → 0 < d → near (pos 2 *ℤ v) (2 * d) ≡ near v d
+unfolding Tie
+near-double v d h = sym (nearest-unique (pos 2 *ℤ v) (2 * d) n (omega arith) (record { distance = omega (arith, sizes v n, f .distance); tie = λ e. f .tie (omega (arith, sizes v n, e)) }))
+  where
+    n : ℤ
+    n = near v d
+
+    f : Nearest v d n
+    f = near-nearest v d h
+
+    sizes : (v n : ℤ) → natAbs (pos 2 *ℤ (pos (2 * d) *ℤ n -ℤ pos 2 *ℤ v)) ≡ 2 * natAbs (pos 2 *ℤ (pos d *ℤ n -ℤ v))
+    sizes v n = rw (split v, split n) (simp whole (omega arith))
+
 -- Over an even divisor code adds its half, less a digit b, and takes the floor. At an exact half, where v + d is 2d · n, b is to say whether n is odd.
 pub near-even : (v : ℤ) (d b : ℕ) → 0 < d → b ≤ 1 → ((n : ℤ) → v +ℤ pos d ≡ pos (2 * d) *ℤ n → b ≡ odd n) → near v (2 * d) ≡ floor (v +ℤ (pos d -ℤ pos b)) (2 * d)
 unfolding Tie
