@@ -1,6 +1,6 @@
 -- The fits that documents 01 and 02 name as accepted: a lone point, whose ground is level at its height throughout; no points, all zero; and between them
--- document 01's rows of a point of 9, as a hill beside a hollow; and two points that disagree, each by its confidence. Levels are computed in f64. So there
--- are fits that the rules accept.
+-- document 01's rows of a point of 9, as a hill beside a hollow; two points that disagree, each by its confidence; and a quotient of exactly 4,000,000,000.5.
+-- Levels are computed in f64. So there are fits that the rules accept.
 use mathlib.Core.Path.{_≡_, refl, ap, ap₂, _∙_}
 use mathlib.Core.Option.{none}
 use mathlib.Core.List.{List, [], _∷_}
@@ -13,7 +13,7 @@ use lib.Ieee.{lt, ofBits, add, mul, div, ofInt}
 use lib.ListN.{length, getD, replicate, getD-replicate, List·getD-eq-default, length-replicate}
 use Rattle.algebra.specs.Solver.{var, con, _⊞_, _⊠_, solve}
 use Rattle.algebra.specs.Table.{tabulate, over, tabulate-same, tabulate-replicate}
-use Rattle.rules.specs.Rounding.{floor, near}
+use Rattle.rules.specs.Rounding.{floor, nearUp, nearDown, even, near}
 use Rattle.rules.specs.Grid.{limit, inRange, confident, within, inside, cellsAt, unitAt, controls, control, store}
 use Rattle.rules.specs.Surface.{square, cube, numerator, denominator, cell, offset, weighted, along, height}
 use Rattle.rules.specs.Level.{basis, weight, addSquares, squares, noSums, grown, uses, touched, gathered, coefficient, signed, nearFloat, kept, settled, fittedAt}
@@ -60,7 +60,7 @@ record Level0 : Type 0 where
   fine : levelsCheck one (lone (pos 0)) ≡ none
 
 level-0 : Level0
-unfolding running levelsCheck levelCheck quotientCheck residualCheck sumCheck rangeCheck lowered levelHeight height along weighted control level levelOf levelValue fittedAt gathered touched uses weight basis squares addSquares grown noSums coefficient settled kept nearFloat signed near floor orZero residuals store controls columns rows unitOf cellsAt unitAt tabulate pointsOf cell offset numerator denominator square cube inRange present require _then_ firstOf lt ofBits add mul div ofInt
+unfolding running levelsCheck levelCheck quotientCheck residualCheck sumCheck rangeCheck lowered levelHeight height along weighted control level levelOf levelValue fittedAt gathered touched uses weight basis squares addSquares grown noSums coefficient settled kept nearFloat signed near nearUp nearDown even floor orZero residuals store controls columns rows unitOf cellsAt unitAt tabulate pointsOf cell offset numerator denominator square cube inRange present require _then_ firstOf lt ofBits add mul div ofInt
 level-0 = record { lattice = refl; residual = refl; fine = refl }
 
 module _ (z : ℤ) where
@@ -123,13 +123,13 @@ pub record Hill : Type 0 where
   pub accepted-levels : inLevelsCheck hill hollow ≡ none
 
 pub hill-and-hollow : Hill
-unfolding singleLattice lastResiduals inLevelsCheck finalCheck shifted differences base nearMean total running levelsCheck levelCheck quotientCheck residualCheck sumCheck rangeCheck lowered levelHeight height along weighted control level levelOf levelValue fittedAt gathered touched uses weight basis squares addSquares grown noSums coefficient settled kept nearFloat signed near floor orZero residuals store controls columns rows unitOf cellsAt unitAt tabulate pointsOf cell offset numerator denominator square cube inRange present require _then_ firstOf lt ofBits add mul div ofInt
+unfolding singleLattice lastResiduals inLevelsCheck finalCheck shifted differences base nearMean total running levelsCheck levelCheck quotientCheck residualCheck sumCheck rangeCheck lowered levelHeight height along weighted control level levelOf levelValue fittedAt gathered touched uses weight basis squares addSquares grown noSums coefficient settled kept nearFloat signed near nearUp nearDown even floor orZero residuals store controls columns rows unitOf cellsAt unitAt tabulate pointsOf cell offset numerator denominator square cube inRange present require _then_ firstOf lt ofBits add mul div ofInt
 hill-and-hollow = record { lattice = refl; residual = refl; accepted-levels = refl }
 
 -- so its fit is accepted, whatever slices are lent that are long enough
 pub hill-accepted : (lent : Lent) → lentCheck hill 2 lent ≡ none
     → fitCall hill hollow lent ≡ outcome (accepted (record { m = 3; n = 1 })) (cleared hill 2 (results hill hollow lent))
-unfolding fitCall fitEnd fitCheck surveyCheck cellsCheck hCheck listsCheck pointsCheck pointCheck spotCheck confident differenceCheck differences shifted base nearMean total near floor tabulate rangeCheck within inside inRange columns rows cellsAt firstOf require _then_
+unfolding fitCall fitEnd fitCheck surveyCheck cellsCheck hCheck listsCheck pointsCheck pointCheck spotCheck confident differenceCheck differences shifted base nearMean total near nearUp nearDown even floor tabulate rangeCheck within inside inRange columns rows cellsAt firstOf require _then_
 hill-accepted lent room = rw (room, hill-and-hollow .accepted-levels) refl
 
 -- ---- two points that disagree
@@ -147,8 +147,25 @@ pub record Settled : Type 0 where
   pub accepted-levels : inLevelsCheck one disputed ≡ none
 
 pub settled-by-confidence : Settled
-unfolding singleLattice lastResiduals inLevelsCheck finalCheck shifted differences base nearMean total running levelsCheck levelCheck quotientCheck residualCheck sumCheck rangeCheck lowered levelHeight height along weighted control level levelOf levelValue fittedAt gathered touched uses weight basis squares addSquares grown noSums coefficient settled kept nearFloat signed near floor orZero residuals store controls columns rows unitOf cellsAt unitAt tabulate pointsOf cell offset numerator denominator square cube inRange present require _then_ firstOf lt ofBits add mul div ofInt
+unfolding singleLattice lastResiduals inLevelsCheck finalCheck shifted differences base nearMean total running levelsCheck levelCheck quotientCheck residualCheck sumCheck rangeCheck lowered levelHeight height along weighted control level levelOf levelValue fittedAt gathered touched uses weight basis squares addSquares grown noSums coefficient settled kept nearFloat signed near nearUp nearDown even floor orZero residuals store controls columns rows unitOf cellsAt unitAt tabulate pointsOf cell offset numerator denominator square cube inRange present require _then_ firstOf lt ofBits add mul div ofInt
 settled-by-confidence = record { lattice = refl; residual = refl; accepted-levels = refl }
+
+-- ---- a quotient at the end of its range
+
+-- three points at one place, about a base of 0. The quotient at (0, 0) is exactly 4,000,000,000.5, which goes to the even 4,000,000,000 as its negative does
+abbrev pub brink : Survey
+brink = survey (0 ∷ 0 ∷ 0 ∷ []) (0 ∷ 0 ∷ 0 ∷ []) (pos 2_482_758_621 ∷ negℤ (pos 1_241_379_310) ∷ negℤ (pos 1_241_379_311) ∷ []) (30 ∷ 1 ∷ 1 ∷ [])
+
+abbrev peakRow : ℕ → ℕ → List ℤ → List ℤ
+peakRow a b next = pos a ∷ pos b ∷ pos a ∷ pos 0 ∷ next
+
+pub record Brink : Type 0 where
+  pub lattice : singleLattice one brink ≡ peakRow 250_000_000 1_000_000_000 (peakRow 1_000_000_000 4_000_000_000 (peakRow 250_000_000 1_000_000_000 (peakRow 0 0 [])))
+  pub accepted-levels : inLevelsCheck one brink ≡ none
+
+pub at-the-brink : Brink
+unfolding singleLattice inLevelsCheck finalCheck shifted differences base nearMean total running levelsCheck levelCheck quotientCheck residualCheck sumCheck rangeCheck lowered levelHeight height along weighted control level levelOf levelValue fittedAt gathered touched uses weight basis squares addSquares grown noSums coefficient settled kept nearFloat signed near nearUp nearDown even floor orZero residuals store controls columns rows unitOf cellsAt unitAt tabulate pointsOf cell offset numerator denominator square cube inRange present require _then_ firstOf lt ofBits add mul div ofInt
+at-the-brink = record { lattice = refl; accepted-levels = refl }
 
 -- ---- no points
 
@@ -169,7 +186,7 @@ masked-zeros zero f c h = rw (h c, h (c + 1))
 masked-zeros (suc odd) f c h = rw (h c, h (c + 1), h (c + 2))
 
 refined-zeros : (m n i j : ℕ) → refined (control m (zeros n)) i j ≡ pos 0
-unfolding refined finer2 finer near floor
+unfolding refined finer2 finer near nearUp nearDown even floor
 refined-zeros m n i j = ap (λ v. near v 64) (masked-zeros (j % 2) _ (j / 2) (λ r. masked-zeros (i % 2) _ (i / 2) (λ q. control-zeros m n q r)))
 
 module _ (a : Shape) (s : Survey) (none-given : pointCount s ≡ 0) where

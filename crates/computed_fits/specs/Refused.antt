@@ -7,7 +7,7 @@ use Prim.Native.Nat.{ℕ, _+_, _/_, _%_}
 use lib.IntN.{ℤ, pos, negℤ}
 use lib.Ieee.{lt, ofBits, add, mul, div, ofInt}
 use Rattle.algebra.specs.Table.{tabulate}
-use Rattle.rules.specs.Rounding.{floor, near}
+use Rattle.rules.specs.Rounding.{floor, nearUp, nearDown, even, near}
 use Rattle.rules.specs.Grid.{inRange, confident, within, inside, cellsAt, unitAt, controls, control, store}
 use Rattle.rules.specs.Surface.{square, cube, numerator, denominator, cell, offset, weighted, along, height}
 use Rattle.rules.specs.Level.{basis, weight, addSquares, squares, noSums, grown, uses, touched, gathered, coefficient, signed, nearFloat, kept, settled, fittedAt}
@@ -29,7 +29,7 @@ abbrev pub far : Survey
 far = survey (8 ∷ 8 ∷ 8 ∷ []) (8 ∷ 8 ∷ 8 ∷ []) (pos 4_000_000_000 ∷ negℤ (pos 4_000_000_000) ∷ negℤ (pos 4_000_000_000) ∷ []) (ones 3)
 
 pub difference-refused : (lent : Lent) → lentCheck one 3 lent ≡ none → fitCall one far lent ≡ outcome (refused (difference 0)) lent
-unfolding fitCall fitEnd fitCheck surveyCheck cellsCheck hCheck listsCheck pointsCheck pointCheck spotCheck confident differenceCheck differences shifted base nearMean total near floor tabulate rangeCheck within inside inRange columns rows cellsAt firstOf require _then_
+unfolding fitCall fitEnd fitCheck surveyCheck cellsCheck hCheck listsCheck pointsCheck pointCheck spotCheck confident differenceCheck differences shifted base nearMean total near nearUp nearDown even floor tabulate rangeCheck within inside inRange columns rows cellsAt firstOf require _then_
 difference-refused lent room = rw room refl
 
 -- every height is asked before any difference: the last one here is out of range, and the first is too far from the base as well
@@ -78,7 +78,7 @@ record Corners : Type 0 where
   too-steep : levelsCheck one (valued corners (pos 2_500_000_000 ∷ negℤ (pos 2_500_000_000) ∷ [])) ≡ some (quotient 0)
 
 corner-levels : Corners
-unfolding differences shifted base nearMean total levelsCheck levelCheck quotientCheck levelValue fittedAt gathered touched uses weight basis squares addSquares grown noSums coefficient settled kept nearFloat signed near floor residuals controls columns rows unitOf cellsAt unitAt tabulate pointsOf cell offset numerator denominator square cube inRange present require _then_ firstOf lt ofBits add mul div ofInt
+unfolding differences shifted base nearMean total levelsCheck levelCheck quotientCheck levelValue fittedAt gathered touched uses weight basis squares addSquares grown noSums coefficient settled kept nearFloat signed near nearUp nearDown even floor residuals controls columns rows unitOf cellsAt unitAt tabulate pointsOf cell offset numerator denominator square cube inRange present require _then_ firstOf lt ofBits add mul div ofInt
 corner-levels = record { from-base = refl; too-steep = refl }
 
 pub quotient-refused : (lent : Lent) → lentCheck one 2 lent ≡ none → fitCall one corners lent ≡ outcome (refused (quotient 0)) (cleared one 2 lent)
@@ -100,7 +100,7 @@ record Pit : Type 0 where
   too-deep : levelsCheck one (valued pit pit-differences) ≡ some (residual 0)
 
 pit-levels : Pit
-unfolding differences shifted base nearMean total levelsCheck levelCheck quotientCheck residualCheck rangeCheck lowered levelHeight height along weighted control level levelOf levelValue fittedAt gathered touched uses weight basis squares addSquares grown noSums coefficient settled kept nearFloat signed near floor orZero residuals store controls columns rows unitOf cellsAt unitAt tabulate pointsOf cell offset numerator denominator square cube inRange present require _then_ firstOf lt ofBits add mul div ofInt
+unfolding differences shifted base nearMean total levelsCheck levelCheck quotientCheck residualCheck rangeCheck lowered levelHeight height along weighted control level levelOf levelValue fittedAt gathered touched uses weight basis squares addSquares grown noSums coefficient settled kept nearFloat signed near nearUp nearDown even floor orZero residuals store controls columns rows unitOf cellsAt unitAt tabulate pointsOf cell offset numerator denominator square cube inRange present require _then_ firstOf lt ofBits add mul div ofInt
 pit-levels = record { from-base = refl; too-deep = refl }
 
 pub residual-refused : (lent : Lent) → lentCheck one 3 lent ≡ none → fitCall one pit lent ≡ outcome (refused (residual 0)) (cleared one 3 lent)
@@ -152,11 +152,11 @@ abbrev pub steep : Survey
 steep = survey (16 ∷ 0 ∷ []) (16 ∷ 0 ∷ []) (pos 2_600_000_000 ∷ negℤ (pos 2_400_000_000) ∷ []) (ones 2)
 
 steep-differences : differences (steep .zs) ≡ pos 2_500_000_000 ∷ negℤ (pos 2_500_000_000) ∷ []
-unfolding differences shifted base nearMean total near floor tabulate
+unfolding differences shifted base nearMean total near nearUp nearDown even floor tabulate
 steep-differences = refl
 
 steep-levels : Computed (valued steep (pos 2_500_000_000 ∷ negℤ (pos 2_500_000_000) ∷ [])) (pos 1_671_436_126 ∷ negℤ (pos 1_444_907_464) ∷ [])
-unfolding quotientsOf masked finer finer2 refined raised lowered levelHeight height along weighted control levelOf levelValue fittedAt gathered touched uses weight basis squares addSquares grown noSums coefficient settled kept nearFloat signed near floor orZero store controls columns rows unitOf cellsAt unitAt tabulate pointsOf cell offset numerator denominator square cube inRange rangeCheck present require _then_ firstOf lt ofBits add mul div ofInt
+unfolding quotientsOf masked finer finer2 refined raised lowered levelHeight height along weighted control levelOf levelValue fittedAt gathered touched uses weight basis squares addSquares grown noSums coefficient settled kept nearFloat signed near nearUp nearDown even floor orZero store controls columns rows unitOf cellsAt unitAt tabulate pointsOf cell offset numerator denominator square cube inRange rangeCheck present require _then_ firstOf lt ofBits add mul div ofInt
 steep-levels = record { quotients-0 = refl; left = refl; residuals-0 = refl; quotients-1 = refl; residuals-1 = refl; sums-1 = refl }
 
 -- with the base all sums would be in range
@@ -166,7 +166,7 @@ with-base : rangeCheck (controls (columns two 1) (rows two 1))
     (levelOf two 1 (valued steep (pos 1_671_436_126 ∷ negℤ (pos 1_444_907_464) ∷ [])))))
     (λ q. sum 1)
     ≡ none
-unfolding shifted masked finer finer2 refined raised control levelOf levelValue fittedAt gathered touched uses weight basis squares addSquares grown noSums coefficient settled kept nearFloat signed near floor orZero store controls columns rows unitOf cellsAt unitAt tabulate pointsOf cell offset numerator denominator square cube inRange rangeCheck require _then_ firstOf lt ofBits add mul div ofInt
+unfolding shifted masked finer finer2 refined raised control levelOf levelValue fittedAt gathered touched uses weight basis squares addSquares grown noSums coefficient settled kept nearFloat signed near nearUp nearDown even floor orZero store controls columns rows unitOf cellsAt unitAt tabulate pointsOf cell offset numerator denominator square cube inRange rangeCheck require _then_ firstOf lt ofBits add mul div ofInt
 with-base = refl
 
 pub sum-refused : (lent : Lent) → lentCheck two 2 lent ≡ none → fitCall two steep lent ≡ outcome (refused (sum 1)) (cleared two 2 lent)
@@ -190,7 +190,7 @@ record Crest : Type 0 where
   too-high : rangeCheck 16 (shifted (pos 3_000_000_000) (running one (valued crest crest-differences) 0)) (λ q. sum 0) ≡ some (sum 0)
 
 crest-levels : Crest
-unfolding differences shifted base nearMean total running levelsCheck levelCheck quotientCheck residualCheck sumCheck rangeCheck lowered levelHeight height along weighted control level levelOf levelValue fittedAt gathered touched uses weight basis squares addSquares grown noSums coefficient settled kept nearFloat signed near floor orZero residuals store controls columns rows unitOf cellsAt unitAt tabulate pointsOf cell offset numerator denominator square cube inRange present require _then_ firstOf lt ofBits add mul div ofInt
+unfolding differences shifted base nearMean total running levelsCheck levelCheck quotientCheck residualCheck sumCheck rangeCheck lowered levelHeight height along weighted control level levelOf levelValue fittedAt gathered touched uses weight basis squares addSquares grown noSums coefficient settled kept nearFloat signed near nearUp nearDown even floor orZero residuals store controls columns rows unitOf cellsAt unitAt tabulate pointsOf cell offset numerator denominator square cube inRange present require _then_ firstOf lt ofBits add mul div ofInt
 crest-levels = record { from-base = refl; levels-fine = refl; base-is = refl; too-high = refl }
 
 crest-figures : inLevelsCheck one crest ≡ some (sum 0)

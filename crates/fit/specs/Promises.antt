@@ -1,16 +1,18 @@
 -- What a fit promises beyond its equation with the rules. Refused, its number and place say which figure left its range, of which point or level, and its
--- number what is left as it was. With q = 1 throughout, its answer and its slices are those of a fit without q.
+-- number what is left as it was. With q = 1 throughout, its answer and its slices are those of a fit without q. With every height negated, it leaves the
+-- negated lattice and residuals, or is refused alike.
 use mathlib.Core.Path.{_≡_, refl, sym, ap, _∙_}
 use mathlib.Core.Bool.{cond}
 use mathlib.Core.Option.{some}
 use lib.ListN.{length}
 use Rattle.rules.specs.Fit.{Shape, Survey, pointCount, AllOne}
 use Rattle.rules.specs.Answers.{Refusal, number, place, refused, Outcome, outcome}
-use Rattle.rules.specs.Calls.{CellCounts, Lent, cleared, fitCheck, fitEnd, fitCall}
+use Rattle.rules.specs.Calls.{CellCounts, Lent, lentCheck, cleared, fitCheck, fitEnd, fitCall}
 use Rattle.rules.specs.Laws.Checks.{ofLevels, in-levels}
 use Rattle.rules.specs.Laws.Passed.{fit-refused}
 use Rattle.rules.specs.Laws.Refused as law
 use Rattle.rules.specs.Laws.Confidence.{earlierCall, call-as-earlier}
+use Rattle.rules.specs.Laws.Negation.{upsideDown, Overturned, negation}
 use Rattle.answers.specs.CellsTold.{told}
 use Rattle.answers.specs.declared.CellsTold.{CellsTold}
 
@@ -30,3 +32,10 @@ module _ (a : Shape) (s : Survey) (lent after : Lent) (r : CellsTold) (rules : o
 pub as-earlier : (a : Shape) (s : Survey) (lent after : Lent) (r : CellsTold) → outcome (told r) after ≡ fitCall a s lent
     → length (s .qs) ≡ pointCount s → AllOne s → outcome (told r) after ≡ earlierCall a s lent
 as-earlier a s lent after r rules as-many one = rules ∙ call-as-earlier a s as-many one lent
+
+-- "Negating every height of a point list must negate lattice and residuals, or give the same refusal with the same place": of two calls that both were lent
+-- room, or both were not
+pub negated-heights : (a : Shape) (s : Survey) (lent after lent' after' : Lent) (r r' : CellsTold) → outcome (told r) after ≡ fitCall a s lent
+    → outcome (told r') after' ≡ fitCall a (upsideDown s) lent' → lentCheck a (pointCount s) lent' ≡ lentCheck a (pointCount s) lent
+    → Overturned a (pointCount s) (outcome (told r) after) (outcome (told r') after')
+negated-heights a s lent after lent' after' r r' rules rules' room = rw (rules, rules') (negation a s lent lent' room)

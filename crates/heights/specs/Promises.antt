@@ -1,11 +1,12 @@
--- What an accepted height promises beyond its equation with the rules: it is in range, and within one micrometre of the exact surface.
-use mathlib.Core.Path.{_≡_, sym, _∙_}
+-- What a height promises beyond its equation with the rules: accepted, it is in range, and within one micrometre of the exact surface; and of the negated
+-- lattice it is the negative, or the same refusal.
+use mathlib.Core.Path.{_≡_, sym, ap, _∙_}
 use mathlib.Core.Bool.{_&&_}
 use mathlib.Core.Option.{none}
 use mathlib.Core.List.{List}
 use Prim.Native.Nat.{ℕ, _*_, _≤_}
 use lib.Dec.{leb, leb→le}
-use lib.IntN.{ℤ, pos, natAbs, _-ℤ_, _*ℤ_}
+use lib.IntN.{ℤ, pos, negℤ, natAbs, _-ℤ_, _*ℤ_}
 use lib.ListN.{length}
 use mir.Facts.{and-yes}
 use Rattle.rules.specs.Grid.{limit, inside, controls, control}
@@ -15,6 +16,7 @@ use Rattle.rules.specs.Calls.{cellsCheck, unitCheck, latticeCheck, heightCheck,
 use Rattle.rules.specs.Laws.Checks.{required, then-both, then-rest, answer-none, answer-value}
 use Rattle.rules.specs.Laws.Surface.{Inside, Bounded, full, control-within, height-within, height-distance}
 use Rattle.rules.specs.Laws.Passed.{cells-passed, unit-positive, lattice-passed}
+use Rattle.rules.specs.Laws.Negation.{negated, withValue, height-call}
 use Rattle.heights.specs.Reading.{told}
 use Rattle.heights.specs.declared.Reading.{Reading}
 
@@ -47,3 +49,7 @@ module _ (m n U : ℕ) (l : List ℤ) (x y : ℕ) (r : Reading) (z : ℤ) (rules
   -- 2 |36U⁶ · z - surface| ≤ 2 · 36U⁶
   pub near-surface : natAbs (pos 2 *ℤ (pos (full U) *ℤ z -ℤ surface U m n (control m l) x y)) ≤ 2 * full U
   near-surface = rw (← height-is) (height-distance U m n x y (passed .0) (control m l))
+
+pub negated-ground : (m n U : ℕ) (l : List ℤ) (x y : ℕ) (r r' : Reading) → told r ≡ heightAnswer m n U l x y → told r' ≡ heightAnswer m n U (negated l) x y
+    → told r' ≡ withValue negℤ (told r)
+negated-ground m n U l x y r r' rules rules' = rules' ∙ height-call m n l U x y ∙ ap (withValue negℤ) (sym rules)

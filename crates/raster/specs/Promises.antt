@@ -1,6 +1,6 @@
 -- What a raster promises beyond its equation with the rules. Where it is accepted, a height alone would be accepted at each node, and each is in range; there
 -- are as many as were asked for, in at most 8,193 columns and rows, and the slice holds them.
--- Accepted or refused, at a given step it is the raster of the earlier default, when step 0 stood for 16.
+-- Accepted or refused, at a given step it is the raster of the earlier default, when step 0 stood for 16; and of the negated lattice it has the negatives.
 use mathlib.Core.Path.{_≡_, ap, _∙_}
 use mathlib.Core.Bool.{_&&_}
 use mathlib.Core.Option.{none}
@@ -18,6 +18,7 @@ use Rattle.rules.specs.Calls.{Nodes, defaultStep, nodes, cellsCheck, unitCheck,
 use Rattle.rules.specs.Laws.Checks.{required, require-met, then-both, then-rest, firstOf-none, call-unrefused, call-value, call-after}
 use Rattle.rules.specs.Laws.Surface.{height-within}
 use Rattle.rules.specs.Laws.Raster.{rasterWhere, given-raster, given-default}
+use Rattle.rules.specs.Laws.Negation.{negated, Mirrored, raster-call}
 use Rattle.heights.specs.Promises.{height-passed}
 use Rattle.answers.specs.CountTold.{told}
 use Rattle.answers.specs.declared.CountTold.{CountTold}
@@ -117,3 +118,9 @@ module _ (m n U : ℕ) (l : List ℤ) (x0 y0 across down : ℕ) (output : List �
     -- "A caller that relied on 0 must give 16 explicitly, and its raster then equals the earlier one"
     pub sixteen-for-zero : step ≡ 16 → outcome (told r) after ≡ earlier 0
     sixteen-for-zero is = rules ∙ rw is (given-default m n U l x0 y0 across down output 16 defaultStep (omega arith))
+
+-- of two calls that both were lent room, or both were not
+pub negated-ground : (m n U : ℕ) (l : List ℤ) (g : Nodes) (before after before' after' : List ℤ) (r r' : CountTold) → outcome (told r) after ≡ rasterCall m n U l g before
+    → outcome (told r') after' ≡ rasterCall m n U (negated l) g before' → let count = g .across * g .down in leb count (length before') ≡ leb count (length before)
+    → Mirrored count (outcome (told r) after) (outcome (told r') after')
+negated-ground m n U l g before after before' after' r r' rules rules' room = rw (rules, rules') (raster-call m n l U g before before' room)

@@ -1,11 +1,13 @@
--- What a refinement promises beyond its equations with the rules: "Refine never gives 7", nor 13 or 14, and the values that an accepted one writes are in
--- range.
+-- What a refinement promises beyond its equations with the rules: "Refine never gives 7", nor 13 or 14; the values that an accepted one writes are in range;
+-- and of the negated lattice it writes the negatives, or is refused alike.
 use mathlib.Core.Path.{_≡_, sym, subst, _∙_}
 use mathlib.Core.Bool.{false}
 use mathlib.Core.Option.{none}
 use mathlib.Core.List.{List}
 use Prim.Native.Nat.{ℕ, _*_}
+use lib.Dec.{leb}
 use lib.IntN.{ℤ, pos}
+use lib.ListN.{length}
 use Rattle.algebra.specs.Table.{over, getD-over}
 use Rattle.rules.specs.Grid.{limit, controls, control, store}
 use Rattle.rules.specs.Refinement.{refined}
@@ -16,6 +18,7 @@ use Rattle.rules.specs.Laws.Checks.{call-unrefused, call-value, call-after, cal
 use Rattle.rules.specs.Laws.Passed.{lattice-passed}
 use Rattle.rules.specs.Laws.Refused.{refine-only}
 use Rattle.rules.specs.Laws.Surface.{Bounded, control-within, refined-within, length-store, store-within}
+use Rattle.rules.specs.Laws.Negation.{negated, Mirrored, refine-call}
 use Rattle.answers.specs.CellsTold.{told}
 use Rattle.answers.specs.declared.CellsTold.{CellsTold}
 
@@ -48,3 +51,9 @@ module _ (m n : ℕ) (lattice before after : List ℤ) (r : CellsTold) (rules : 
     unfolding refineCall
     in-range =
         subst (λ (k : CellCounts). AllInRange (controls (k .m) (k .n)) after) (call-value (refineCheck m n lattice before) _ _ before (told r) after rules c e) new-range
+
+-- of two calls that both were lent room, or both were not
+pub negated-ground : (m n : ℕ) (l before after before' after' : List ℤ) (r r' : CellsTold) → outcome (told r) after ≡ refineCall m n l before
+    → outcome (told r') after' ≡ refineCall m n (negated l) before' → let count = controls (2 * m) (2 * n) in leb count (length before') ≡ leb count (length before)
+    → Mirrored count (outcome (told r) after) (outcome (told r') after')
+negated-ground m n l before after before' after' r r' rules rules' room = rw (rules, rules') (refine-call m n l before before' room)

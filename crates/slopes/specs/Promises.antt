@@ -1,4 +1,5 @@
--- What an accepted slope promises beyond its equation with the rules: along each axis it is within 750/U + 1/2 nanometres of the exact slope, and 0 on level ground.
+-- What slopes promise beyond their equation with the rules: accepted, along each axis they are within 750/U + 1/2 nanometres of the exact slope, and 0 on
+-- level ground; and of the negated lattice they are the negatives, or the same refusal.
 use mathlib.Core.Path.{_≡_, sym, ap, subst, _∙_}
 use mathlib.Core.List.{List}
 use Prim.Native.Nat.{ℕ, _+_, _*_, _<_}
@@ -11,6 +12,7 @@ use Rattle.rules.specs.Calls.{Slopes, heightCheck, slopeAnswer}
 use Rattle.rules.specs.Laws.Checks.{answer-none, answer-value}
 use Rattle.rules.specs.Laws.Surface.{Same, Inside, place-below}
 use Rattle.rules.specs.Laws.Slope.{slopeX-distance, slopeY-distance, level-slopeX, level-slopeY}
+use Rattle.rules.specs.Laws.Negation.{negated, withValue, oppositeSlopes, slope-call}
 use Rattle.heights.specs.Promises.{height-passed}
 use Rattle.slopes.specs.Sloping.{told}
 use Rattle.slopes.specs.declared.Sloped.{Sloped}
@@ -45,3 +47,7 @@ module _ (m n U : ℕ) (l : List ℤ) (x y : ℕ) (r : Sloped) (s : Slopes) (rul
       sym (ap (λ (b : Slopes). b .along-x) slopes-are) ∙ level-slopeX U m n x y on (control m l) c ground,
       sym (ap (λ (b : Slopes). b .along-y) slopes-are) ∙ level-slopeY U m n x y on (control m l) c ground,
     )
+
+pub negated-ground : (m n U : ℕ) (l : List ℤ) (x y : ℕ) (r r' : Sloped) → told r ≡ slopeAnswer m n U l x y → told r' ≡ slopeAnswer m n U (negated l) x y
+    → told r' ≡ withValue oppositeSlopes (told r)
+negated-ground m n U l x y r r' rules rules' = rules' ∙ slope-call m n l U x y ∙ ap (withValue oppositeSlopes) (sym rules)

@@ -7,6 +7,7 @@ use mathlib.Core.List.{List, [], _∷_, _++_, map, map-append}
 use Prim.Native.Nat.{ℕ, zero, suc, _+_, _-_, _*_, _/_, _%_, _<_}
 use native.Mathlib.Numerals.{add-one}
 use native.Mathlib.Omega.{arith}
+use lib.Dec.{leb}
 use lib.IntN.{ℤ, pos, negsuc, negℤ, _+ℤ_, _-ℤ_, _*ℤ_, negℤ-+ℤ}
 use lib.Ieee.{Float, lt, odd, ofBits, ofFields}
 use lib.ListN.{length, getD, take, length-map, List·getD-map}
@@ -32,7 +33,7 @@ use Rattle.rules.specs.Calls.{CellCounts, Lent, K, lentCheck, fitCheck, 
 use Rattle.rules.specs.Laws.Rounding.{near-odd}
 use Rattle.rules.specs.Laws.Opposite.{Opposite, numbers, opposite-sum, opposite-product, opposite-quotient, opposite-float, opposite-settled, range-odd}
 use Rattle.rules.specs.Laws.Basis.{weighted-scale, along-scale}
-use Rattle.rules.specs.Laws.Surface.{denominator-positive}
+use Rattle.rules.specs.Laws.Surface.{denominator-positive, length-store}
 use Rattle.rules.specs.Laws.Slope.{slopeDenominator-positive}
 use Rattle.rules.specs.Laws.TwoScale.{finer-multiple}
 use Rattle.rules.specs.Laws.Checks.{then-first, then-rest}
@@ -149,10 +150,21 @@ unfolding answer withValue
 answer-with none f v w h = ap accepted (h refl)
 answer-with (some r) f v w h = refl
 
-call-same : {A B : Type 0} (c : Check) (v : A) (after other lent : B) → (c ≡ none → after ≡ other) → call c v after lent ≡ call c v other lent
+-- the first places of two slices with negated results
+front : (n : ℕ) (r d e : List ℤ) {other : List ℤ} → length r ≡ n → other ≡ negated r → take n (over other e) ≡ negated (take n (over r d))
+unfolding over
+front n r d e {other} l o = take-at other _ n (ap length o ∙ length-negated r ∙ l) ∙ o ∙ ap negated (sym (take-at r _ n l))
+
+-- a call that writes n places, and another that answers alike and, where they accept, leaves the negated values there
+pub record Mirrored {A : Type 0} (n : ℕ) (one other : Outcome A (List ℤ)) : Type 0 where
+  pub answers : other .answered ≡ one .answered
+  pub written : (v : A) → one .answered ≡ accepted v → take n (other .slices) ≡ negated (take n (one .slices))
+
+mirrored-call : {A : Type 0} (c : Check) (v : A) (n : ℕ) (r d e : List ℤ) {other : List ℤ} → length r ≡ n → (c ≡ none → other ≡ negated r)
+    → Mirrored n (call c v (over r d) d) (call c v (over other e) e)
 unfolding call
-call-same none v after other lent h = ap (outcome (accepted v)) (h refl)
-call-same (some r) v after other lent h = refl
+mirrored-call none v n r d e l o = record { answers = refl; written = λ w is. front n r d e l (o refl) }
+mirrored-call (some f) v n r d e l o = record { answers = refl; written = λ w is. cc }
 
 abbrev pub oppositeSlopes : Slopes → Slopes
 oppositeSlopes v = record { along-x = negℤ (v .along-x); along-y = negℤ (v .along-y) }
@@ -188,23 +200,23 @@ module _ (m n : ℕ) (l : List ℤ) where
           (answer-with (heightCheck m n U l x y) oppositeSlopes _ _ (λ e i.
           record { along-x = slopeX-odd U m n (unit-checked e) (control m l) x y i; along-y = slopeY-odd U m n (unit-checked e) (control m l) x y i }))
 
-    pub raster-call : (g : Nodes) (output : List ℤ)
-        → rasterCall m n U (negated l) g output
-        ≡ call (rasterCheck m n U l g output) (g .across * g .down) (over (negated (tabulate (g .across * g .down) (nodeHeight m n U l g))) output) output
+    -- two rasters, both lent room or neither
+    pub raster-call : (g : Nodes) (output output' : List ℤ) → let count = g .across * g .down in leb count (length output') ≡ leb count (length output)
+        → Mirrored count (rasterCall m n U l g output) (rasterCall m n U (negated l) g output')
     unfolding rasterCall rasterCheck
-    raster-call g output =
-        rw (length-negated l, lattice-check)
-        (call-same (rasterCheck m n U l g output) _ _ _ output (λ e.
-        ap (λ r. over r output)
-        (negated-tabulate (g .across * g .down) _ _ (λ q. stored-odd U m n (unit-positive U (then-first _ _ (then-rest _ _ e))) l (nodeX g q) (nodeY g q)))))
+    raster-call g output output' room =
+        rw (length-negated l, lattice-check, room)
+        (mirrored-call (rasterCheck m n U l g output) _ _ (tabulate (g .across * g .down) (nodeHeight m n U l g)) output output' (length-tabulate _ _) (λ e.
+        negated-tabulate (g .across * g .down) _ _ (λ q. stored-odd U m n (unit-positive U (then-first _ _ (then-rest _ _ e))) l (nodeX g q) (nodeY g q))))
 
-  pub refine-call : (output : List ℤ)
-      → refineCall m n (negated l) output
-      ≡ call (refineCheck m n l output) (record { m = 2 * m; n = 2 * n }) (over (negated (store (2 * m) (2 * n) (refined (control m l)))) output) output
+  -- and two refinements
+  pub refine-call : (output output' : List ℤ) → let count = controls (2 * m) (2 * n) in leb count (length output') ≡ leb count (length output)
+      → Mirrored count (refineCall m n l output) (refineCall m n (negated l) output')
   unfolding refineCall refineCheck
-  refine-call output =
-      rw (length-negated l, lattice-check, negated-control m l)
-      (call-same (refineCheck m n l output) _ _ _ output (λ e. ap (λ r. over r output) (negated-store (2 * m) (2 * n) _ _ (refined-odd (control m l)))))
+  refine-call output output' room =
+      rw (length-negated l, lattice-check, negated-control m l, room)
+      (mirrored-call (refineCheck m n l output) _ _ (store (2 * m) (2 * n) (refined (control m l))) output output' (length-store _ _ _)
+      (λ e. negated-store (2 * m) (2 * n) _ _ (refined-odd (control m l))))
 
 -- ---- the base
 
@@ -400,11 +412,6 @@ module _ (a : Shape) (s : Survey) where
   length-last : length (lastResiduals a s) ≡ pointCount s
   unfolding lastResiduals residuals lowered
   length-last = rw (add-one (a .h)) (length-tabulate (pointCount s) _)
-
--- the first places of two slices with negated results
-front : (n : ℕ) (r d e : List ℤ) {other : List ℤ} → length r ≡ n → other ≡ negated r → take n (over other e) ≡ negated (take n (over r d))
-unfolding over
-front n r d e {other} l o = take-at other _ n (ap length o ∙ length-negated r ∙ l) ∙ o ∙ ap negated (sym (take-at r _ n l))
 
 -- one call and another that answers alike and, where they accept, leaves the negated lattice and residuals in their first K and p places
 pub record Overturned (a : Shape) (p : ℕ) (one other : Outcome CellCounts Lent) : Type 0 where
