@@ -193,11 +193,15 @@ near-even v d b h l at-half = sym (nearest-unique v (2 * d) n (omega arith) (rec
     tied (yes k) e = sym (at-half n (below v n k (f .high) e)) ∙ omega arith
     tied (no k) e = before n (sym (at-half (n +ℤ pos 1) (above v n (omega arith) (f .low) e)) ∙ omega arith)
 
--- it is above z past v / d = z + 1/2, and at that exactly if z is odd
-pub near-above : (v z : ℤ) (d : ℕ) → 0 < d → (z <ℤ near v d) ↔ ((pos (2 * d) *ℤ z +ℤ (pos d -ℤ pos (odd z))) <ℤ (pos 2 *ℤ v))
+-- what 2v is to be above for v / d to be past z + 1/2, or with b = 1 for it to be there
+abbrev pub middle : ℤ → ℕ → ℕ → ℤ
+middle z d b = pos (2 * d) *ℤ z +ℤ (pos d -ℤ pos b)
+
+-- near is above z past z + 1/2, and at that exactly if z is odd
+pub near-above : (v z : ℤ) (d : ℕ) → 0 < d → (z <ℤ near v d) ↔ (middle z d (odd z) <ℤ (pos 2 *ℤ v))
 unfolding Tie
 near-above v z d h = (
-  λ k. elim (≤ℤ-or-<ℤ (pos 2 *ℤ v) bound) [
+  λ k. elim (≤ℤ-or-<ℤ (pos 2 *ℤ v) (middle z d (odd z))) [
     | inl l ↦ let a = over v n z (odd z) (≤ℤ-scale d (suc-≤ℤ z n .1 k)) l (f .distance) in absurd (two-even z n k (<ℤ-cancel d n (z +ℤ pos 2) (a .2)) (a .0) (f .tie (a .1)))
     | inr l ↦ l
   ],
@@ -210,17 +214,14 @@ near-above v z d h = (
     n : ℤ
     n = near v d
 
-    bound : ℤ
-    bound = pos (2 * d) *ℤ z +ℤ (pos d -ℤ pos (odd z))
-
     f : Nearest v d n
     f = near-nearest v d h
 
-    over : (v n z : ℤ) (b : ℕ) → (pos d *ℤ (z +ℤ pos 1)) ≤ℤ (pos d *ℤ n) → (pos 2 *ℤ v) ≤ℤ (pos (2 * d) *ℤ z +ℤ (pos d -ℤ pos b)) → WithinHalf v d n
+    over : (v n z : ℤ) (b : ℕ) → (pos d *ℤ (z +ℤ pos 1)) ≤ℤ (pos d *ℤ n) → (pos 2 *ℤ v) ≤ℤ middle z d b → WithinHalf v d n
         → (b ≡ 0) × (natAbs (pos 2 *ℤ (pos d *ℤ n -ℤ v)) ≡ d) × ((pos d *ℤ n) <ℤ (pos d *ℤ (z +ℤ pos 2)))
     over v n z b = rw (split v, split n, split z) (simp whole (omega arith))
 
-    under : (v n z : ℤ) (b : ℕ) → b < 2 → (pos d *ℤ n) ≤ℤ (pos d *ℤ z) → (pos (2 * d) *ℤ z +ℤ (pos d -ℤ pos b)) <ℤ (pos 2 *ℤ v) → WithinHalf v d n
+    under : (v n z : ℤ) (b : ℕ) → b < 2 → (pos d *ℤ n) ≤ℤ (pos d *ℤ z) → middle z d b <ℤ (pos 2 *ℤ v) → WithinHalf v d n
         → (b ≡ 1) × (natAbs (pos 2 *ℤ (pos d *ℤ n -ℤ v)) ≡ d) × ((pos d *ℤ z) <ℤ (pos d *ℤ (n +ℤ pos 1)))
     under v n z b = rw (split v, split n, split z) (simp whole (omega arith))
 
