@@ -1,11 +1,11 @@
 /*
- * A second implementation of document 01 and of document 02's jobs 1 and 3 to 8, written from
+ * A second implementation of document 01 and of document 02's jobs 1 and 3 to 9, written from
  * their text: its author had document 01 and the interface reference.h, the later author of the
  * slopes that job's text too, and this file as it stood, and the authors of refusals 13 and 14,
- * of the base, of the finer default step, of the pond storage, of the ground above a stage and of
- * the confidence of a point documents 01 and 02, the interface, this file and README.md as they
- * stood. None had the definitions, nor the library's code, nor any paper that explains them.
- * README.md says how they read what the text leaves open.
+ * of the base, of the finer default step, of the pond storage, of the ground above a stage, of the
+ * confidence of a point and of the halves to even documents 01 and 02, the interface, this file and
+ * README.md as they stood. None had the definitions, nor the library's code, nor any paper that
+ * explains them. README.md says how they read what the text leaves open.
  *
  * Compile with
  *     gcc -std=c99 -Wall -Wextra -pedantic -O3 -ffp-contract=off
@@ -91,13 +91,14 @@ static unsigned shift_of_unit(size_t unit)
 /* ---- Rounding ---- */
 
 /*
- * Where an exact half goes, "to the larger": the one place of this file that says it. Each near below finds
- * the larger of the two nearest whole numbers, and whether it is exactly a half away.
+ * Where an exact half goes, "to the even neighbour" since job 9: the one place of this file that says it. Each
+ * near below finds the nearest whole number, of two the larger, and half, which is 1 if it is exactly a half
+ * away and else 0. An odd number has the last bit 1 below 0 too, as int64_t is two's complement; then the even
+ * neighbour is one less.
  */
 static int64_t nearest(int64_t larger, int half)
 {
-    (void)half;
-    return larger;
+    return larger - (larger & half);
 }
 
 int64_t ref_near(int64_t v, int64_t d)
@@ -109,20 +110,23 @@ int64_t ref_near(int64_t v, int64_t d)
         rest += d;
         quotient--;
     }
-    return rest < d - rest ? quotient : nearest(quotient + 1, rest == d - rest);
+    return nearest(quotient + (rest >= d - rest), rest == d - rest);
 }
 
 /*
  * near(v / 6U^3) of a basis sum. Numerators are not negative and add up to 6U^3,
  * so |v| <= BOUND * 6U^3. Adding BOUND * 6U^3 before and taking BOUND off after
  * keeps the dividend from being negative, and then unsigned division is the floor;
- * at U = 512 it stays below 2 * 4e9 * 8.06e8 + 4.1e8 < 6.5e18 < 2^63.
+ * at U = 512 it stays below 2 * 4e9 * 8.06e8 + 4.1e8 < 6.5e18 < 2^63. Half of 6U^3
+ * is added too, so an exact half leaves no rest; multiplying back shows that without
+ * a division by 6U^3.
  */
 static int64_t near_of_basis_sum(int64_t v, unsigned shift)
 {
     int64_t cube = INT64_C(1) << 3 * shift;
     uint64_t raised = (uint64_t)(v + 6 * cube * BOUND + 3 * cube);
-    return nearest((int64_t)((raised >> 3 * shift) / 6) - BOUND, raised % (uint64_t)(6 * cube) == 0);
+    uint64_t quotient = (raised >> 3 * shift) / 6;
+    return nearest((int64_t)quotient - BOUND, quotient * (uint64_t)(6 * cube) == raised);
 }
 
 /* near(v / 64) of a refinement sum, |v| <= 64 * BOUND, in the same way. */
@@ -142,11 +146,14 @@ static int64_t near_of_slope_sum(int64_t v, unsigned shift)
 {
     int64_t cube = INT64_C(1) << 3 * shift, lift = INT64_C(1) << 62;
     uint64_t raised = (uint64_t)(1000 * v + lift + cube);
-    return nearest((int64_t)(raised >> (3 * shift + 1)) - (lift >> (3 * shift + 1)),
-                   raised % (uint64_t)(2 * cube) == 0);
+    uint64_t quotient = raised >> (3 * shift + 1);
+    return nearest((int64_t)quotient - (lift >> (3 * shift + 1)), quotient << (3 * shift + 1) == raised);
 }
 
-/* near of a finite f64's exact value, |q| < 2^52: a fraction is exact in f64. */
+/*
+ * near of a finite f64's exact value, |q| < 2^52: a fraction is exact in f64. At a half below 0 the larger
+ * neighbour is whole itself.
+ */
 static int64_t near_of_f64(double q)
 {
     int64_t whole = (int64_t)q;     /* toward zero */

@@ -2,8 +2,8 @@
  * A second implementation of the ground lattice of document 01, of the slopes of
  * document 02's first job, of the refusals 13 and 14 of its third, of the base of its
  * fourth, of the finer default raster of its fifth, of the pond storage of its sixth, of
- * the ground above a stage of its seventh and of the confidence of a point of its eighth, in
- * plain C99, written from their text.
+ * the ground above a stage of its seventh, of the confidence of a point of its eighth and of
+ * the halves to even of its ninth, in plain C99, written from their text.
  *
  * Every call checks its arguments itself, refuses as the documents say and then
  * leaves the slices as they say. Any argument may have any value; a
@@ -26,7 +26,10 @@ typedef struct { uint64_t number, place, m0, n0, h, points; } ref_header;
 typedef struct { uint64_t number, place, litres; } ref_storage;
 typedef struct { uint64_t number, place, above; } ref_above;
 
-/* near(v/d) for d of at least 1, at any v; document 01 has no other divisors, and they give 0. */
+/*
+ * near(v/d) for d of at least 1, at any v, an exact half going to the even neighbour since document 02's job 9;
+ * document 01 has no other divisors, and they give 0.
+ */
 int64_t ref_near(int64_t v, int64_t d);
 
 ref_cells ref_fit(size_t m0, size_t n0, size_t h,
