@@ -1,5 +1,5 @@
 /*
- * Runs every file of the outside vectors against the reference.
+ * Runs every file of the outside vectors against the reference, but for quotient.txt: near of an f64 is part of its fits alone.
  *
  *   vectors FOLDER
  *
