@@ -118,9 +118,9 @@ typedef struct {
 /*
  * Fits one lattice to p points: m0 by n0 coarsest cells (1..16), levels 0 to h (0..5). Positions run 0 to 16 * m0 * 2^h along x,
  * likewise y with n0. Lends: lattice K, residual p, whole scratch 3K + p, f64 scratch 2K (see the macros); longer is fine.
- * The base of the fit is the mean of the z, to the nearest whole micrometre, halves up, or 0 with no points. The levels are fitted
- * to the differences, z less the base, and the base is added to every control value at the end: far from any point the ground is
- * as high as the base.
+ * The base of the fit is the mean of the z, to the nearest whole micrometre, an exact half to the even one, or 0 with no points. The
+ * levels are fitted to the differences, z less the base, and the base is added to every control value at the end: far from any point
+ * the ground is as high as the base.
  * q is a point's confidence, 1 to 255: in each level a point counts as q points at its place would, but for rounding; in the base it
  * counts once. With q 1 for every point lattice and residuals are, to the bit, those of a fit without q.
  * Accepted: the cell counts of level h; the lattice and the residuals, what the levels leave of the differences, in their first K
@@ -159,7 +159,7 @@ curlew_cells curlew_refine(size_t m, size_t n, const int64_t *lattice, size_t la
 
 /*
  * The heights of columns * rows nodes from (x0, y0) at one step, row by row. Step 0 stands for CURLEW_DEFAULT_STEP. It stood for
- * 16: a caller that relied on 0 gives 16, and the raster is then what it was. No columns or no rows writes nothing. Answers the
+ * 16: a caller that relied on 0 gives 16, and the nodes are then those of before. No columns or no rows writes nothing. Answers the
  * nodes written. Refuses 1, 2, 8, 4, 6, 5 (the first node outside, row * columns + column).
  */
 curlew_count curlew_raster(size_t m, size_t n, size_t unit, const int64_t *lattice, size_t lattice_len, size_t x0, size_t y0,

@@ -169,8 +169,9 @@ def read_lattice(data):
 # ---- heights
 
 def near(v, d):
-    """The nearest whole number to v/d, an exact half going to the larger; // is the floor."""
-    return (2 * v + d) // (2 * d)
+    """The nearest whole number to v/d, an exact half going to the even one; divmod has the floor."""
+    whole, rest = divmod(v, d)
+    return whole + (2 * rest + whole % 2 > d)       # an odd floor is left from a half on, an even one past it
 
 
 def place(position, cells, unit):
