@@ -18,11 +18,11 @@ static uint8_t *confidences(const draft *d)
 
 /* ---- fits ---- */
 
-/* A fit of two points at (x, 0), one cell, h = 0. */
-static draft two_points(uint16_t at, const int64_t z[2], uint8_t first, uint8_t second)
+/* A fit of two points at (0, 0), one cell, h = 0. */
+static draft two_points(const int64_t z[2], uint8_t first, uint8_t second)
 {
-    const uint16_t x[] = { at, at }, y[] = { 0, 0 };
-    const draft d = fit_of(0, x, y, z, 2);
+    static const uint16_t origin[] = { 0, 0 };
+    const draft d = fit_of(0, origin, origin, z, 2);
 
     confidences(&d)[0] = first;
     confidences(&d)[1] = second;
@@ -39,7 +39,7 @@ static void disagreement(const char *name, uint8_t first, uint8_t second, int64_
 {
     static const int64_t z[] = { 0, 36 };
     static const int64_t rows[] = { 1, 4, 1, 0, 4, 16, 4, 0, 1, 4, 1, 0, 0, 0, 0, 0 };
-    const draft d = two_points(0, z, first, second);
+    const draft d = two_points(z, first, second);
     size_t at;
 
     begin(name);
@@ -68,23 +68,23 @@ static void two_levels(void)
 }
 
 /*
- * Quotients that are exact halves, so that the last bit decides.
+ * Quotients that are exact halves, or would be but for f64, so that the last bit decides. Both at (0, 0).
  *
- * At (16, 0), with heights 207 (q 91) and 362 (q 219): base 285, differences -78 and 77, their mean by confidence 9765/310 = 31.5, and
- * in place 1 a quotient of 4/36 * 31.5 = 3.5. Grouped as job 8 has it, it is not below 3.5 in f64, and 4; with q times the finished
- * product it is below, and 3.
- * At (0, 0), with heights -97 (q 250) and -237 (q 70): base -167, differences 70 and -70, their mean 12600/320 = 39.375, and in place 1
- * a quotient of 16/36 * 39.375 = 17.5. With (q * w) * w it is below.
+ * Heights 162 (q 218) and 254 (q 38): base 208, differences -46 and 46, their mean by confidence -8280/256 = -32.34375, and in place 5 a
+ * quotient of 64/36 * -32.34375 = -57.5. Grouped as job 8 has it, it is above -57.5 in f64, and -57; with q times the finished product it
+ * is below, and -58.
+ * Heights -97 (q 250) and -237 (q 70): base -167, differences 70 and -70, their mean 12600/320 = 39.375, and in place 1 a quotient of
+ * 16/36 * 39.375 = 17.5, which goes to 18. With (q * w) * w it is below.
  */
 static void grouping_examples(void)
 {
-    static const int64_t up[] = { 207, 362 }, down[] = { -97, -237 };
-    draft d = two_points(16, up, 91, 219);
+    static const int64_t up[] = { 162, 254 }, down[] = { -97, -237 };
+    draft d = two_points(up, 218, 38);
 
     begin("q times the square before the rest");
     expect(&d, 0, 0, 1, 1);
-    need(&d, values_of(&d, LATTICE)[1] == 285 + 4);
-    d = two_points(0, down, 250, 70);
+    need(&d, values_of(&d, LATTICE)[5] == 208 - 57);
+    d = two_points(down, 250, 70);
     begin("the square of a weight before q");
     expect(&d, 0, 0, 1, 1);
     need(&d, values_of(&d, LATTICE)[1] == -167 + 18);

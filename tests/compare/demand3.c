@@ -6,6 +6,7 @@
  * level lattice k is a multiple of 64^(h-k), at h = 0 above all.
  */
 #include "cases.h"
+#include "examples.h"
 #include "trial.h"
 
 #include "../../include/curlewtable.h"
@@ -229,6 +230,7 @@ void exact_case(generator *g, size_class size)
     check_fit(g, &d, 0, d.call.number[H] > 2 ? 3 : 1);
 }
 
+/* Grid nodes, where a sum is a half once in six times, and the middles between them. */
 void half_case(generator *g, size_class size)
 {
     draft d = some_grid(g, size == SMALL ? 1 : 3, 0);
@@ -238,5 +240,28 @@ void half_case(generator *g, size_class size)
     some_points(g, &d, points);
     for (at = 0; at < points; at++)
         ((int64_t *)d.call.slice[Z].at)[at] = between(g, -40, 40);
-    check_fit(g, &d, 0, 16);
+    check_fit(g, &d, 0, 8);
+}
+
+/* ---- the most distance that is allowed ---- */
+
+/*
+ * Heights 19 and -21 beside each other. At (0, 8) the sums of the four rows are -1.5, -13.5, -13.5 and -1.5, which go to -2 and -14; the
+ * sum of those is -13.5 and goes to -14, where the exact surface is -13. All five halves go one way, and so do the negated ones.
+ */
+void distance_examples(void)
+{
+    static const uint16_t x[] = { 15, 4 }, y[] = { 8, 8 };
+    generator g = { 3 };
+    int64_t sign;
+
+    for (sign = -1; sign <= 1; sign += 2) {
+        const int64_t z[] = { 19 * sign, -21 * sign };
+        const size_t before = seen.at_bound;
+        draft d = fit_of(0, x, y, z, 2);
+
+        begin("the most distance that demand 3 allows");
+        check_fit(&g, &d, 0, 1);
+        need(&d, seen.at_bound > before && height_at(&d.call, 0, 8).height == -14 * sign);
+    }
 }

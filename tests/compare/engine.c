@@ -29,21 +29,27 @@ void lend_fit(generator *g, draft *d)
     lend(g, d, FLOATS, CURLEW_FIT_FLOATS(v[M], v[N], v[H]));
 }
 
-void fit_case(generator *g, size_class size)
+draft some_fit(generator *g, size_class size)
 {
     draft d = new_draft(FIT);
 
     some_fit_grid(g, &d, size);
     some_points(g, &d, some_point_count(g, size));
     lend_fit(g, &d);
+    return d;
+}
+
+void fit_case(generator *g, size_class size)
+{
+    draft d = some_fit(g, size);
+
     some_troubles(g, &d, points_trouble);
     trial(&d.call);
 }
 
 /* ---- fits with more confidence in all points ---- */
 
-/* A copy of what a fit left in a slice. */
-static const int64_t *kept_values(const draft *d, role r)
+const int64_t *kept_values(const draft *d, role r)
 {
     static int64_t *kept[SLICES];
 
@@ -118,19 +124,38 @@ static int64_t last_accepted(draft *d, const int64_t share[MOST_SHARES])
     return accepted;
 }
 
-void range_end_case(generator *g, size_class size)
+/* A fit whose heights are such shares of a size, and the last size that is accepted. */
+static draft shared_fit(generator *g, int64_t share[MOST_SHARES], int64_t *last)
 {
     draft d = new_draft(FIT);
-    int64_t share[MOST_SHARES], last, near;
     size_t at;
 
-    (void)size;
     some_fit_grid(g, &d, SMALL);
     some_points(g, &d, 2 + below(g, MOST_SHARES - 1));         /* one alone is accepted at any height */
     for (at = 0; at < MOST_SHARES; at++)
         share[at] = at == 0 ? 8 : between(g, -8, 8);
     lend_fit(g, &d);
-    last = last_accepted(&d, share);
+    *last = last_accepted(&d, share);
+    return d;
+}
+
+draft range_end_fit(generator *g)
+{
+    int64_t share[MOST_SHARES], last, size;
+    draft d = shared_fit(g, share, &last);
+
+    size = last + between(g, -1, 2);
+    set_heights(&d, share, size < LIMIT ? size : LIMIT);
+    lend_fit(g, &d);
+    return d;
+}
+
+void range_end_case(generator *g, size_class size)
+{
+    int64_t share[MOST_SHARES], last, near;
+    draft d = shared_fit(g, share, &last);
+
+    (void)size;
     for (near = last - 1; near <= last + 2 && near <= LIMIT; near++) {
         set_heights(&d, share, near);
         lend_fit(g, &d);                        /* noise again */
@@ -151,7 +176,7 @@ static uint16_t beside(generator *g, size_t near, size_t reach, size_t far)
  * Points beside each other, by turns high and low: a level whose cells don't tell them apart sees little of them, so that
  * the fit comes to a level that does, and is often refused there.
  */
-void leap_case(generator *g, size_class size)
+draft leap_fit(generator *g)
 {
     draft d = new_draft(FIT);
     const size_t points = 2 + below(g, 3), reach = (size_t)1 << below(g, 9);
@@ -159,7 +184,6 @@ void leap_case(generator *g, size_class size)
     int64_t *z = d.call.slice[Z].at;
     size_t at;
 
-    (void)size;
     d.call.number[M] = d.call.number[N] = 1;
     d.call.number[H] = below(g, LEVELS);
     some_points(g, &d, points);
@@ -169,6 +193,14 @@ void leap_case(generator *g, size_class size)
         z[at] = between(g, LIMIT / 3, LIMIT) * (at % 2 == 0 ? 1 : -1);
     }
     lend_fit(g, &d);
+    return d;
+}
+
+void leap_case(generator *g, size_class size)
+{
+    const draft d = leap_fit(g);
+
+    (void)size;
     trial(&d.call);
 }
 
@@ -223,7 +255,7 @@ static int64_t pair_confidences(generator *g, uint8_t *q, size_t points)
     return INT64_C(1) << power;
 }
 
-void tie_case(generator *g, size_class size)
+draft tie_fit(generator *g)
 {
     const size_t tie = below(g, COUNT(ties)), points = ties[tie].points;
     const int64_t base = between(g, -LIMIT / 4, LIMIT / 4);
@@ -245,8 +277,15 @@ void tie_case(generator *g, size_class size)
         y[at] = y[0];
         z[at] = at < points ? base + z[at] : 2 * base - z[at - points];
     }
-    (void)size;
     lend_fit(g, &d);
+    return d;
+}
+
+void tie_case(generator *g, size_class size)
+{
+    const draft d = tie_fit(g);
+
+    (void)size;
     trial(&d.call);
 }
 
@@ -278,8 +317,7 @@ static void place_outside(generator *g, draft *d)
     d->call.number[along_x ? AT_X : AT_Y] = once_in(g, 2) ? far + 1 : wrong_number(g, below(g, far + 1));
 }
 
-/* One trouble of a call with a lattice that is read with a unit. */
-static void height_trouble(generator *g, draft *d)
+void height_trouble(generator *g, draft *d)
 {
     switch (below(g, 5)) {
     case 0:
@@ -366,13 +404,20 @@ void slope_case(generator *g, size_class size)
 
 /* ---- refinements ---- */
 
-void refine_case(generator *g, size_class size)
+draft some_refinement(generator *g, size_class size)
 {
     draft d = new_draft(REFINE);
 
     some_cells(g, &d, size);
     some_lattice(g, &d);
     lend(g, &d, VALUES, CURLEW_CONTROLS(2 * d.call.number[M], 2 * d.call.number[N]));
+    return d;
+}
+
+void refine_case(generator *g, size_class size)
+{
+    draft d = some_refinement(g, size);
+
     some_troubles(g, &d, some_trouble);
     trial(&d.call);
 }

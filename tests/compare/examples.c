@@ -1,7 +1,7 @@
 /*
  * The examples of document 01 ("Table of checked examples"), as document 02 leaves them, and a few more with known answers,
  * among them slopes, ground above a stage, storages and a fit refused for each figure, each as a trial whose answer and results are
- * held to those values. Those of confidences are in confidence.c.
+ * held to those values. Those of confidences are in confidence.c, those of halves and negations in negation.c.
  */
 #include "cases.h"
 #include "examples.h"
@@ -84,13 +84,14 @@ static void lone_point(const char *name, size_t h, uint16_t x, int64_t z)
     need(&d, values_of(&d, RESIDUAL)[0] == 0);
 }
 
-/* Points on the diagonal, and how their fit is refused. */
+/* Points on the diagonal, and how their fit is refused, with its negation. */
 static void refused_example(const char *name, size_t h, const uint16_t *at, const int64_t *z, size_t points, uint64_t number, uint64_t place)
 {
-    const draft d = fit_of(h, at, at, z, points);
+    draft d = fit_of(h, at, at, z, points);
 
     begin(name);
     expect(&d, number, place, 0, 0);
+    both_ways(&g, &d);
 }
 
 /* One for each figure. */
@@ -114,26 +115,28 @@ static void residual_before_sum(void)
 {
     static const uint16_t x[] = { 11, 14, 30, 20, 14, 14 }, y[] = { 24, 18, 16, 20, 14, 28 };
     static const int64_t z[] = { 3541000000, -3299000000, 2810000000, 1215000000, -2242000000, -3710000000 };
-    const draft d = fit_of(1, x, y, z, COUNT(z));
+    draft d = fit_of(1, x, y, z, COUNT(z));
 
     begin("fit with a residual and a sum out of range");
     expect(&d, RESIDUAL_OUT, 1, 0, 0);
+    both_ways(&g, &d);
 }
 
-/* Heights half a micrometre from their mean: the base is the larger of the two. */
+/* Heights half a micrometre from their mean: the base is the even one of the two. */
 static void base_examples(void)
 {
     static const uint16_t at[] = { 8, 8 };
-    static const int64_t z[][2] = { { 0, 1 }, { -1, 0 }, { -2, -1 }, { 4000000000, 3999999999 } };
+    static const int64_t z[][2] = { { 0, 1 }, { -1, 0 }, { 2, 1 }, { -1, -2 }, { 2, 3 }, { -3, -2 },
+                                    { 4000000000, 3999999999 }, { -3999999999, -4000000000 } };
     size_t i;
 
     for (i = 0; i < COUNT(z); i++) {
         const draft d = fit_of(0, at, at, z[i], 2);
-        const int64_t larger = z[i][0] < z[i][1] ? z[i][1] : z[i][0];
+        const int64_t even = z[i][0] % 2 == 0 ? z[i][0] : z[i][1];
 
         begin("base between two heights");
         expect(&d, 0, 0, 1, 1);
-        need(&d, values_of(&d, LATTICE)[3] == larger);          /* touched by the points, with nothing to speak of */
+        need(&d, values_of(&d, LATTICE)[3] == even);            /* touched by the points, with nothing to speak of */
     }
 }
 
@@ -165,7 +168,7 @@ static void fit_examples(void)
 
 /* ---- heights, refinements, rasters: a lattice with one control value that is not 0 ---- */
 
-static draft single_value(function f, size_t m, int i, int j, int64_t value)
+draft single_value(function f, size_t m, int i, int j, int64_t value)
 {
     draft d = new_draft(f);
     int64_t *lattice = d.call.slice[LATTICE].at;
@@ -264,7 +267,7 @@ static void lattice_examples(void)
     height_example("E1", 0, 0, 36, 0, 16);
     height_example("E2", 0, 0, 36, 16, 1);
     height_example("E3", 0, 0, 36, 8, 8);
-    height_example("E4", -1, 0, 3, 0, 1);
+    height_example("E4", -1, 0, 3, 0, 0);
     height_example("E5", -1, 0, -3, 0, 0);
     refine_examples();
     raster_example("raster of step 8,192", 8192, 0);
@@ -334,16 +337,16 @@ static void slope_examples(void)
 {
     static const int64_t level[] = { 1234567, 1234567, 1234567, 1234567 }, plane[] = { -1000, 0, 1000, 2000 };
     static const int64_t rise[] = { 0, 0, 2, 0 }, fall[] = { 2, 0, 0, 0 }, cliff[] = { -LIMIT, -LIMIT, LIMIT, LIMIT };
-    static const int64_t halves[] = { 51, 3, -3, -3 }, corner[] = { 3, 0, 0, 0 };
+    static const int64_t halves[] = { 51, 3, -3, -3 }, corner[] = { 9, 0, 0, 0 };
 
     plane_example("slopes of level ground", level, 0);
     plane_example("slopes of a plane, a millimetre a cell", plane, 62500);
-    slope_example("slope of 62 and a half", rise, 4, 0, 63, 0);
+    slope_example("slope of 62 and a half", rise, 4, 0, 62, 0);
     slope_example("slope of minus 62 and a half", fall, 4, 0, -62, 0);
     slope_example("the steepest slope", cliff, 4, 8, INT64_C(375000000000), 0);
-    slope_example("slopes over column sums that are halves", halves, 1, 8, -109, -31);
-    /* near of its column and of its row is 1; were the first step not rounded, or the slope the first step, it would be -16 */
-    slope_example("slopes over one sum that is a half", corner, 1, 0, -31, -31);
+    slope_example("slopes over column sums that are halves", halves, 1, 8, -62, -31);
+    /* near of its column and of its row is 2; were the first step not rounded, or the slope the first step, it would be -47 */
+    slope_example("slopes over one sum that is a half", corner, 1, 0, -62, -62);
 }
 
 /* ---- lattices with values out of range ---- */
@@ -652,6 +655,8 @@ size_t run_examples(void)
     above_examples();
     storage_examples();
     confidence_examples();
+    negation_examples();
+    distance_examples();
     file_examples();
     return examples;
 }

@@ -70,6 +70,14 @@ void lend(generator *g, draft *d, role r, size_t exact)
     fill_with_noise(g, r, exact + over);
 }
 
+void lend_again(generator *g, draft *d)
+{
+    role r;
+    for (r = X; r < SLICES; r++)
+        if (writes(d->call.function, r))
+            fill_with_noise(g, r, d->call.slice[r].length);
+}
+
 role some_role(generator *g, unsigned set)
 {
     role r;

@@ -28,6 +28,9 @@ draft new_draft(function f);
 /* Lends so many places or a few more, full of noise: in f64 with NaN and infinities. */
 void lend(generator *g, draft *d, role r, size_t exact);
 
+/* Noise again in every slice that the call may write, of the length that it has. */
+void lend_again(generator *g, draft *d);
+
 /* ---- what the header allows */
 
 /* Cells a side, up to most, and for fits h. */
