@@ -1,86 +1,47 @@
--- near of a fraction v / d: when the rules keep it, and which of n and n + 1 it is where n is no more than 1/2 away.
-use mathlib.Core.Path.{_≡_}
-use mathlib.Core.Option.{none, some}
-use Prim.Native.Nat.{ℕ, _+_, _≤_, _<_}
-use native.Mathlib.Nat.{lt-of-mul-lt-mul-left}
+-- near of a fraction: it is what f64's rounding takes for the nearest, an even whole number moves it, and where it is out of range.
+use mathlib.Core.Path.{_≡_, sym, _∙_}
+use mathlib.Core.Bool.{Bool, true, false}
+use mathlib.Core.Logic.{_↔_}
+use Prim.Native.Nat.{ℕ, _+_, _*_, _%_, _<_}
 use native.Mathlib.Omega.{arith}
-use borrow.Author.Tests.{le-leb, lt-leb}
-use lib.IntN.{ℤ, pos, negℤ, natAbs, _+ℤ_, _-ℤ_, _*ℤ_}
-use lib.Signed.{_≤ℤ_, _<ℤ_}
-use Rattle.algebra.specs.Difference.{posPart, negPart, split, whole}
-use Rattle.rules.specs.Grid.{limit, inRange}
+use lib.IntN.{ℤ, pos, natAbs, _+ℤ_, _-ℤ_, _*ℤ_}
+use lib.Signed.{_<ℤ_}
+use lib.Ieee.Nearest.{closest}
+use Rattle.algebra.specs.Difference.{split, whole}
+use Rattle.algebra.specs.Size.{natAbs-neg}
+use Rattle.rules.specs.Grid.{limit}
 use Rattle.rules.specs.Rounding.{near}
-use Rattle.rules.specs.Level.{kept}
-use Rattle.rules.specs.Laws.Rounding.{WithinHalf, Nearest, nearest-below, below-tie, near-nearest, nearest-unique, near-distance}
+use Rattle.rules.specs.Level.{signed}
+use Rattle.rules.specs.Laws.Rounding.{Tie, odd, near-nearest, nearest-unique, near-odd, middle, near-above}
+use Rattle.float_near.proofs.WholeRange.{closest-nearest}
 
--- v / d compares with n + 1/2 and with n - 1/2 as 2v with these two
-abbrev pub over : ℤ → ℕ → ℤ
-over n d = (pos 2 *ℤ n +ℤ pos 1) *ℤ pos d
+pub closest-near : (a d : ℕ) → 0 < d → pos (closest a d) ≡ near (pos a) d
+closest-near a d p = nearest-unique (pos a) d (pos (closest a d)) p (closest-nearest a d p)
 
-abbrev pub under : ℤ → ℕ → ℤ
-under n d = (pos 2 *ℤ n -ℤ pos 1) *ℤ pos d
-
--- v / d is no less than -limit - 1/2 and below limit + 1/2: what has a near in range
-pub record Ranged (v : ℤ) (d : ℕ) : Type 0 where
-  pub low : under (negℤ (pos limit)) d ≤ℤ (pos 2 *ℤ v)
-  pub high : (pos 2 *ℤ v) <ℤ over (pos limit) d
-
--- ---- by the distance alone
-
-pub close-size : (v : ℤ) (d : ℕ) (n : ℤ) → 0 < d → WithinHalf v d n → Ranged v d → natAbs n ≤ limit + 1
-close-size v d n p h r = go v n h (r .low) (r .high)
+-- what is added to the fraction is added to near, also at an exact half if it is even
+pub near-moved : (v : ℤ) (d b : ℕ) → 0 < d → b % 2 ≡ 0 → near (v +ℤ pos (b * d)) d ≡ near v d +ℤ pos b
+unfolding Tie
+near-moved v d b p even =
+    let f = near-nearest v d p in
+    sym
+    (nearest-unique (v +ℤ pos (b * d)) d (near v d +ℤ pos b) p
+    (record { distance = rw (same v (near v d)) (f .distance); tie = λ h. parity (near v d) (f .tie (sym (same v (near v d)) ∙ h)) even }))
   where
-    go : (v n : ℤ) → WithinHalf v d n → under (negℤ (pos limit)) d ≤ℤ (pos 2 *ℤ v) → (pos 2 *ℤ v) <ℤ over (pos limit) d → natAbs n ≤ limit + 1
-    go v n =
-        rw (split v, split n)
-        (simp whole (λ a l h.
-        let x : posPart n < negPart n + (limit + 2) = lt-of-mul-lt-mul-left d (omega arith) in
-        let y : negPart n < posPart n + (limit + 2) = lt-of-mul-lt-mul-left d (omega arith) in
-        omega arith))
+    same : (v n : ℤ) → natAbs (pos 2 *ℤ (pos d *ℤ (n +ℤ pos b) -ℤ (v +ℤ pos (b * d)))) ≡ natAbs (pos 2 *ℤ (pos d *ℤ n -ℤ v))
+    same v n = rw (split v, split n) (simp whole (omega arith))
 
-pub outside-low : (v : ℤ) (d : ℕ) → 0 < d → (pos 2 *ℤ v) <ℤ under (negℤ (pos limit)) d → none ≡ kept (some (near v d))
-unfolding kept inRange
-outside-low v d p h = rw (lt-leb (natAbs (near v d)) limit (go v (near v d) (near-distance v d p) h))
+    parity : (n : ℤ) → odd n ≡ 0 → b % 2 ≡ 0 → odd (n +ℤ pos b) ≡ 0
+    parity n = rw (split n) (simp whole (omega arith))
+
+-- near's size is the same for either sign
+near-size : (s : Bool) (a d : ℕ) → 0 < d → natAbs (near (signed s a) d) ≡ closest a d
+unfolding signed
+near-size true a d p = rw (near-odd (pos a) d p, ← closest-near a d p) (natAbs-neg (pos (closest a d)))
+near-size false a d p = rw (← closest-near a d p)
+
+-- only where a / d is above limit + 1/2: at that near is limit, which is even
+pub out-of-range : (s : Bool) (a d : ℕ) → 0 < d → (limit < natAbs (near (signed s a) d)) ↔ ((2 * limit + 1) * d < 2 * a)
+out-of-range s a d p = rw (near-size s a d p) (go (closest a d) (rw (← closest-near a d p) at (near-above (pos a) (pos limit) d p)))
   where
-    go : (v n : ℤ) → WithinHalf v d n → (pos 2 *ℤ v) <ℤ under (negℤ (pos limit)) d → limit < natAbs n
-    go v n =
-        rw (split v, split n)
-        (simp whole (λ a h. let x : posPart n + limit < negPart n = lt-of-mul-lt-mul-left d (omega arith) in omega arith))
-
--- ---- by the tie rule: at limit + 1/2 and at -limit - 1/2, and half-way between n and n + 1
-
-pub outside-high : (v : ℤ) (d : ℕ) → 0 < d → over (pos limit) d ≤ℤ (pos 2 *ℤ v) → none ≡ kept (some (near v d))
-unfolding kept inRange
-outside-high v d p h = rw (lt-leb (natAbs (near v d)) limit (go v (near v d) (nearest-below p (near-nearest v d p)) h))
-  where
-    go : (v n : ℤ) → (pos 2 *ℤ v) <ℤ over n d → over (pos limit) d ≤ℤ (pos 2 *ℤ v) → limit < natAbs n
-    go v n =
-        rw (split v, split n)
-        (simp whole (λ a h. let x : negPart n + limit < posPart n = lt-of-mul-lt-mul-left d (omega arith) in omega arith))
-
-nearest-size : {v : ℤ} {d : ℕ} {n : ℤ} → 0 < d → Nearest v d n → Ranged v d → natAbs n ≤ limit
-nearest-size {v} {d} {n} p h r = go v n (h .distance) (nearest-below p h) (r .low) (r .high)
-  where
-    go : (v n : ℤ) → WithinHalf v d n → (pos 2 *ℤ v) <ℤ over n d → under (negℤ (pos limit)) d ≤ℤ (pos 2 *ℤ v) → (pos 2 *ℤ v) <ℤ over (pos limit) d → natAbs n ≤ limit
-    go v n =
-        rw (split v, split n)
-        (simp whole (λ a b l h.
-        let x : posPart n < negPart n + (limit + 1) = lt-of-mul-lt-mul-left d (omega arith) in
-        let y : negPart n < posPart n + (limit + 1) = lt-of-mul-lt-mul-left d (omega arith) in
-        omega arith))
-
-pub inside : {v : ℤ} {d : ℕ} {n : ℤ} → 0 < d → Nearest v d n → Ranged v d → some n ≡ kept (some (near v d))
-unfolding kept inRange
-inside {v} {d} {n} p h r = rw (← nearest-unique v d n p h, le-leb (natAbs n) limit (nearest-size p h r))
-
-pub nearest-over : (v : ℤ) (d : ℕ) (n : ℤ) → 0 < d → WithinHalf v d n → over n d ≤ℤ (pos 2 *ℤ v) → Nearest v d (n +ℤ pos 1)
-nearest-over v d n p h l = record { distance = distance v n h l; tie = below-tie v d (n +ℤ pos 1) p (below v n h) }
-  where
-    distance : (v n : ℤ) → WithinHalf v d n → over n d ≤ℤ (pos 2 *ℤ v) → WithinHalf v d (n +ℤ pos 1)
-    distance v n = rw (split v, split n) (simp whole (omega arith))
-
-    below : (v n : ℤ) → WithinHalf v d n → (pos 2 *ℤ v) <ℤ over (n +ℤ pos 1) d
-    below v n = rw (split v, split n) (simp whole (omega arith))
-
-pub nearest-under : (v : ℤ) (d : ℕ) (n : ℤ) → 0 < d → WithinHalf v d n → (pos 2 *ℤ v) <ℤ over n d → Nearest v d n
-nearest-under v d n p h l = record { distance = h; tie = below-tie v d n p l }
+    go : (n : ℕ) → ((pos limit <ℤ pos n) ↔ (middle (pos limit) d 0 <ℤ (pos 2 *ℤ pos a))) → (limit < n) ↔ ((2 * limit + 1) * d < 2 * a)
+    go n = simp whole (λ h. (λ l. omega (arith, h .0 (omega arith)), λ l. omega (arith, h .1 (omega arith))))

@@ -1,23 +1,22 @@
 -- q + 1.5 × 2^52 - 1.5 × 2^52 in f64, for a q in range: the sum lies from 2^52 to 2^53, where it rounds to a whole number, and the difference is exact.
-use mathlib.Core.Path.{_≡_, ap, _∙_}
+use mathlib.Core.Path.{_≡_, refl, ap, _∙_}
 use mathlib.Core.Bool.{Bool, true, false, true≢false}
 use Prim.Native.Nat.{ℕ, suc, _+_, _-_, _*_, _^_, _≤_, _<_}
 use native.Mathlib.Omega.{arith}
 use borrow.Author.Tests.{lt-ltb, le-ltb}
 use lib.Dec.{lit≤}
-use lib.IntN.{ℤ, pos, negsuc, negℤ, natAbs, _+ℤ_, _-ℤ_, _*ℤ_}
-use lib.Signed.{_≤ℤ_, _<ℤ_}
+use lib.IntN.{ℤ, pos, negsuc, negℤ, natAbs, _+ℤ_}
 use lib.Ieee.{Float, fin, binary64, up, down, round, neg, sum, add, sub, ofInt}
 use lib.Ieee.Fits.{down-pos}
 use lib.Ieee.Exact.{HasValue}
 use lib.Ieee.Nearest.{closest}
 use lib.Ieee.Scale.{round-same}
-use Rattle.algebra.specs.Difference.{split, whole}
+use Rattle.algebra.specs.Difference.{whole}
 use Rattle.rules.specs.Grid.{limit}
 use Rattle.rules.specs.Level.{signed}
-use Rattle.rules.specs.Laws.Rounding.{WithinHalf}
-use Rattle.float_near.proofs.Fraction.{over, under, Ranged}
-use Rattle.float_near.proofs.WholeRange.{closest-is-close, round-to-whole}
+use Rattle.rules.specs.Rounding.{near}
+use Rattle.float_near.proofs.Fraction.{closest-near, near-moved}
+use Rattle.float_near.proofs.WholeRange.{round-to-whole}
 
 -- the code's constant SHIFT, 1.5 × 2^52: as a number, and as an f64
 abbrev base : ℕ
@@ -58,47 +57,21 @@ difference-is (fin false m e) R (negsuc n) v h =
 
 -- ---- the two in turn
 
--- the float x is a whole number that is no more than 1/2 away from v / d
-pub record Whole (v : ℤ) (d : ℕ) (x : Float) : Type 0 where
-  pub number : ℤ
-  pub is : x ≡ ofInt binary64 number
-  pub close : WithinHalf v d number
+-- N / d, which is ±a / d + base, lies from 2^52 to 2^53
+lifted : (s : Bool) (a d : ℕ) → 0 < d → 2 * a ≤ (2 * limit + 1) * d
+    → let N = natAbs (signed s a +ℤ pos (base * d)) in (pos N ≡ signed s a +ℤ pos (base * d)) × (2 ^ 52 * d ≤ N) × (N + d < 2 ^ 53 * d)
+unfolding signed
+lifted true a d p h = simp whole (omega arith)
+lifted false a d p h = simp whole (omega arith)
 
--- N / d is v / d + base, and lies from 2^52 to 2^53
-record Lifted (v : ℤ) (d N : ℕ) : Type 0 where
-  is : pos N ≡ v +ℤ pos (base * d)
-  least : 2 ^ 52 * d ≤ N
-  most : N + d < 2 ^ 53 * d
-
-lifted : (v : ℤ) (d : ℕ) → 0 < d → Ranged v d → Lifted v d (natAbs (v +ℤ pos (base * d)))
-lifted v d p r = record { is = is v (r .low); least = least v (r .low); most = most v (r .low) (r .high) }
-  where
-    is : (v : ℤ) → under (negℤ (pos limit)) d ≤ℤ (pos 2 *ℤ v) → pos (natAbs (v +ℤ pos (base * d))) ≡ v +ℤ pos (base * d)
-    is v = rw (split v) (simp whole (omega arith))
-
-    least : (v : ℤ) → under (negℤ (pos limit)) d ≤ℤ (pos 2 *ℤ v) → 2 ^ 52 * d ≤ natAbs (v +ℤ pos (base * d))
-    least v = rw (split v) (simp whole (omega arith))
-
-    most : (v : ℤ) → under (negℤ (pos limit)) d ≤ℤ (pos 2 *ℤ v) → (pos 2 *ℤ v) <ℤ over (pos limit) d → natAbs (v +ℤ pos (base * d)) + d < 2 ^ 53 * d
-    most v = rw (split v) (simp whole (omega arith))
-
-back : (R b : ℕ) → pos R ≡ (pos R -ℤ pos b) +ℤ pos b
-back R b = simp whole (omega arith)
-
-close-of : (v : ℤ) (d N R b : ℕ) → pos N ≡ v +ℤ pos (b * d) → 2 * N ≤ (2 * R + 1) * d → 2 * R * d ≤ 2 * N + d → WithinHalf v d (pos R -ℤ pos b)
-close-of v d N R b = rw (split v) (simp whole (omega arith))
-
-pub whole-of : (s : Bool) (m : ℕ) (e : ℤ) → Ranged (signed s (m * up e)) (down e) → Whole (signed s (m * up e)) (down e) (sub binary64 (add binary64 (fin s m e) shift) shift)
-whole-of s m e r =
+-- near of the sum's exact value is near of q's and base, since base is even
+pub shifted-is : (s : Bool) (m : ℕ) (e : ℤ) → 2 * (m * up e) ≤ (2 * limit + 1) * down e
+    → sub binary64 (add binary64 (fin s m e) shift) shift ≡ ofInt binary64 (near (signed s (m * up e)) (down e))
+shifted-is s m e h =
     let v = signed s (m * up e) in
     let d = down e in
     let N = natAbs (v +ℤ pos (base * d)) in
-    let R = closest N d in
-    let l = lifted v d (down-pos e) r in
-    record {
-      number = pos R -ℤ pos base;
-      is =
-          ap (λ x. sub binary64 x shift) (sum-is s m e N (omega (arith, l .least, down-pos e)) (l .is))
-          ∙ difference-is (round binary64 false N d) R (pos R -ℤ pos base) (round-to-whole binary64 N d (down-pos e) (l .least) (l .most)) (back R base);
-      close = close-of v d N R base (l .is) (closest-is-close N d (down-pos e) .0) (closest-is-close N d (down-pos e) .1);
-    }
+    let l = lifted s (m * up e) d (down-pos e) h in
+    ap (λ x. sub binary64 x shift) (sum-is s m e N (omega (arith, l .1, down-pos e)) (l .0))
+    ∙ difference-is (round binary64 false N d) (closest N d) (near v d) (round-to-whole binary64 N d (down-pos e) (l .1) (l .2))
+    (closest-near N d (down-pos e) ∙ ap (λ x. near x d) (l .0) ∙ near-moved v d base (down-pos e) refl)

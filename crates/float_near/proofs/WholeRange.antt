@@ -1,21 +1,26 @@
--- From 2 ^ (prec - 1) to 2 ^ prec a format's values are the whole numbers: there `round` gives the nearest whole number, which is no more than 1/2 away.
+-- From 2 ^ (prec - 1) to 2 ^ prec a format's values are the whole numbers: there `round` gives the nearest whole number, at an exact half the even one.
 use mathlib.Core.Path.{_≡_}
-use mathlib.Core.Bool.{Bool, false, not}
+use mathlib.Core.Bool.{Bool, true, false, not, false≢true}
 use Prim.Native.Nat.{ℕ, _+_, _-_, _*_, _/_, _%_, _^_, _≤_, _<_, compare, Ordering, Ordering·lt, Ordering·eq, Ordering·gt}
 use native.Mathlib.Nat.{div-add-mod, mod-lt, mul-pos, mul-le-mul-right, mul-lt-mul-of-pos-right, lt-of-mul-lt-mul-right, lt-of-lt-of-le, lt-of-not-le, not-le-of-lt, eq-of-mul-eq-mul-right, div-lt-iff-lt-mul, le-div-iff-mul-le}
 use native.Mathlib.Omega.{arith}
+use borrow.Author.Tests.{eq-eqb}
 use lib.Dec.{T, isLe, isEq, lit≤, leb→le, nleb→lt, eqb→eq}
 use lib.Pow.{pow-add, pow-pos, pow-mono, shl-lt}
+use lib.IntN.{pos}
 use lib.Ieee.{Float, fin, Format, prec, low, up, down, size, nearest, round}
 use lib.Ieee.Digits.{size-lt, size-le}
 use lib.Ieee.Fits.{two, reach, round-is}
 use lib.Ieee.Exact.{HasValue, units-val}
 use lib.Ieee.Nearest.{closest, closest-same}
+use Rattle.algebra.specs.Difference.{whole}
+use Rattle.rules.specs.Laws.Rounding.{Nearest, Tie}
 
--- ---- the nearest whole number to a / b
+-- ---- the nearest whole number to a / b: with a remainder of b / 2 it is the even one
 
-pub closest-is-close : (a b : ℕ) → 0 < b → (2 * a ≤ (2 * closest a b + 1) * b) × (2 * closest a b * b ≤ 2 * a + b)
-closest-is-close a b p = go (compare (r * 2) b) (leb→le (r * 2) b) (nleb→lt (r * 2) b) (eqb→eq (r * 2) b)
+pub closest-nearest : (a b : ℕ) → 0 < b → Nearest (pos a) b (pos (closest a b))
+unfolding Tie
+closest-nearest a b p = go (compare (r * 2) b) (leb→le (r * 2) b) (nleb→lt (r * 2) b) (eqb→eq (r * 2) b) (eq-eqb (r * 2) b)
   where
     w : ℕ
     w = a / b
@@ -23,10 +28,20 @@ closest-is-close a b p = go (compare (r * 2) b) (leb→le (r * 2) b) (nleb→lt 
     r : ℕ
     r = a % b
 
-    go : (o : Ordering) → (T (isLe o) → r * 2 ≤ b) → (T (not (isLe o)) → b < r * 2) → (T (isEq o) → r * 2 ≡ b) → (2 * a ≤ (2 * nearest w o + 1) * b) × (2 * nearest w o * b ≤ 2 * a + b)
-    go Ordering·lt l g e = omega (arith, div-add-mod a b, l tt)
-    go Ordering·eq l g e = omega (arith, div-add-mod a b, e tt, mul-le-mul-right b (mod-lt w {m = 2} (lit≤ tt)))
-    go Ordering·gt l g e = omega (arith, div-add-mod a b, g tt, mod-lt a p)
+    go : (o : Ordering) → (T (isLe o) → r * 2 ≤ b) → (T (not (isLe o)) → b < r * 2) → (T (isEq o) → r * 2 ≡ b) → (r * 2 ≡ b → isEq o ≡ true)
+        → Nearest (pos a) b (pos (nearest w o))
+    go Ordering·lt l g e h = record {
+      distance = simp whole (omega (arith, div-add-mod a b, l tt));
+      tie = simp whole (λ k. absurd (false≢true (h (omega (arith, div-add-mod a b)))));
+    }
+    go Ordering·eq l g e h = record {
+      distance = simp whole (omega (arith, div-add-mod a b, e tt, mul-le-mul-right b (mod-lt w {m = 2} (lit≤ tt))));
+      tie = omega arith;
+    }
+    go Ordering·gt l g e h = record {
+      distance = simp whole (omega (arith, div-add-mod a b, g tt, mod-lt a p));
+      tie = simp whole (omega (arith, div-add-mod a b, g tt, mod-lt a p));
+    }
 
 -- ---- where `round` has the unit 1
 
@@ -51,6 +66,6 @@ round-to-whole f a c p g h =
     let l = low f in
     let dropped = digits-dropped f a c p g (omega arith) in
     let same : closest (a * 2 ^ l) (c * 2 ^ l) ≡ closest a c = closest-same (a * 2 ^ l) (c * 2 ^ l) a c (mul-pos p (pow-pos l)) p (omega arith) in
-    let less : closest a c < 2 ^ prec f = lt-of-mul-lt-mul-right c (omega (arith, closest-is-close a c p)) in
+    let less : closest a c < 2 ^ prec f = lt-of-mul-lt-mul-right c (omega (arith, simp whole at (closest-nearest a c p .distance))) in
     reduced (round f false a c) false (closest a c) l
     (rw (round-is f false a c, dropped, same) (units-val f false (closest a c) l (lt-of-lt-of-le (shl-lt (prec f) l less) (pow-mono (omega (arith, reach f))))))
