@@ -136,6 +136,10 @@ table =
     -- "Example E4 becomes 0", (-1,0)=3 at (0,0). E5 (-1,0)=-3: 0
     ∷ (heightOf (single 0 1 (pos 3)) 0 0 is pos 0)
     ∷ (heightOf (single 0 1 (negℤ (pos 3))) 0 0 is pos 0)
+    -- (-1,-1)=18, 54 and -54, at (0,0): the row is 3, 9 and -9, and the height near of 1/2, 3/2 and -3/2
+    ∷ (heightOf (single 0 0 (pos 18)) 0 0 is pos 0)
+    ∷ (heightOf (single 0 0 (pos 54)) 0 0 is pos 2)
+    ∷ (heightOf (single 0 0 (negℤ (pos 54))) 0 0 is negℤ (pos 2))
     -- E6 refine (0,0)=64: new (0,0) 36, (1,0) 24, (1,1) 16, (2,2) 1, (3,3) 0
     ∷ (refinedAt (single 1 1 (pos 64)) 0 0 is pos 36)
     ∷ (refinedAt (single 1 1 (pos 64)) 1 0 is pos 24)
