@@ -26,14 +26,14 @@ module _ (c : tie.Start) where
   abbrev digit : Number
   digit = number (minus (v .held) (read tt (twice .held)))
 
+returns : tie.Need-returns
+returns c = read tt (digit c .held) .is ∙ digit-is (c .args .v)
+
 mul-result : tie.Need-mul-result
 mul-result c = fits tt (twice c .held)
 
 sub-result : tie.Need-sub-result
 sub-result c = fits tt (digit c .held)
-
-returns : tie.Need-returns
-returns c = read tt (digit c .held) .is ∙ digit-is (c .args .v)
 
 pub lowest-spec : {M : Type 1} → statement M
 lowest-spec = tie.close (tie.spec mul-result sub-result returns)
