@@ -14,16 +14,11 @@ ghost use Rattle.refined_rows.specs.Read.{RowsRead};
 const MASKS: [[i64; 3]; 2] = [[4, 4, 0], [1, 6, 1]];
 
 // The old values that a mask weighs stand at c, c + 1 and, for an odd place, c + 2: a mask of two gives its third value no weight.
-// They are weighed by pairs. The two values that a row has from one place on share a + b, and neither is a product by 6, which is dear where the compiler
-// takes two values at a time.
 fn weigh(odd: usize, a: i64, b: i64, c: i64) -> i64
     requires { ⌜ (odd < 2) × (natAbs a ≤ 32_000_000_000) × (natAbs b ≤ 32_000_000_000) × (natAbs c ≤ 32_000_000_000) ⌝ }
     ensures { λ r. ⌜ r ≡ rule.masked odd (λ i. getD (a ∷ b ∷ c ∷ []) i (pos 0)) 0 ⌝ }
 {
-    let first = MASKS[odd][0];
-    let last = MASKS[odd][2];
-    let between = MASKS[odd][1] - first - last;
-    first * (a + b) + between * b + last * (b + c)
+    MASKS[odd][0] * a + MASKS[odd][1] * b + MASKS[odd][2] * c
 }
 
 // The same, with the parity tested first: the table is then read at a constant place, and a loop makes the test once.

@@ -2,7 +2,7 @@
 // a shift, and 6U³ = 3·2^(3e+1) by a shift and a division by 3.
 ghost use mathlib.Core.Path.{_≡_};
 ghost use mathlib.Core.Logic.{_↔_};
-ghost use Prim.Native.Nat.{_+_, _/_, _%_, _^_, _≤_, _<_};
+ghost use Prim.Native.Nat.{_+_, _*_, _/_, _%_, _^_, _≤_, _<_};
 ghost use lib.IntN.{ℤ, pos, natAbs};
 ghost use lib.Signed.{_<ℤ_};
 ghost use Rattle.rules.specs.Rounding.{floor, near};
@@ -54,15 +54,36 @@ pub fn near_any(v: i64, d: usize) -> i64
     floor_over(2 * v + half, 2 * d)
 }
 
+// The quotient by 6U³ of a sum with 3U³ - 1 in it.
+fn sixths(w: u64, e: u32) -> i64
+    requires { ⌜ (w < 9_223_372_036_854_775_808) × (e ≤ 9) ⌝ }
+    ensures { λ r. ⌜ r ≡ pos ((w + w / 2 ^ (3 * e + 1) % 2) / 2 ^ (3 * e + 1) / 3) ⌝ }
+{
+    (to_even(w, 3 * e + 1) / 3) as i64
+}
+
 // near(v / 6U³). 3·2^60 is added first, so that nothing below 0 is divided: what a fit reads lies on both sides of its base, and a test of the sign would be
 // mispredicted half the time.
 pub fn near_over(v: i64, e: u32) -> i64
     requires { ⌜ (natAbs v ≤ 3_221_225_472_000_000_000) × (e ≤ 9) ⌝ }
     ensures { λ r. ⌜ r ≡ near v (denominator (2 ^ e)) ⌝ }
 {
-    let s = 3 * e;
-    let w = (v + (3_458_764_513_820_540_927 + (3 << s))) as u64;
-    (to_even(w, s + 1) / 3) as i64 - (1 << (59 - s))
+    let w = (v + (3_458_764_513_820_540_927 + (3 << (3 * e)))) as u64;
+    sixths(w, e) - (1 << (59 - 3 * e))
+}
+
+// The same, by a test of the sign, since near of a negative number is the negative of near: shorter, and as good for the nodes of a raster, which have one sign
+// for long.
+pub fn near_over_tested(v: i64, e: u32) -> i64
+    requires { ⌜ (natAbs v ≤ 3_221_225_472_000_000_000) × (e ≤ 9) ⌝ }
+    ensures { λ r. ⌜ r ≡ near v (denominator (2 ^ e)) ⌝ }
+{
+    let half = (3 << (3 * e)) - 1;
+    if v < 0 {
+        0 - sixths((half - v) as u64, e)
+    } else {
+        sixths((half + v) as u64, e)
+    }
 }
 
 // The greatest v for which near(v / 6U³) is not above z, that at the half if z is even: a test of v spares the rounding.

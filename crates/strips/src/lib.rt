@@ -181,7 +181,7 @@ fn node(ring: &[i64; 256], cell: usize, b: Basis, e: u32, i: usize) -> i64
     requires { ⌜ (cell ≤ 512) × (e ≤ 9) × (weightSize b ≤ 805_306_368) × (i < 64) × RingInRange cell i (now ring) ⌝ }
     ensures { λ r. ⌜ r ≡ nodeAt e b (now (ring .entry)) cell i ⌝ }
 {
-    roundings::near_over(node_sum(ring, cell, b, i), e)
+    roundings::near_over_tested(node_sum(ring, cell, b, i), e)
 }
 
 // w nodes of one raster row.

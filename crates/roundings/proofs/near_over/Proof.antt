@@ -6,7 +6,7 @@ use native.Mathlib.Omega.{arith}
 use borrow.Author.Needs.{needs}
 use lib.IntN.{pos, natAbs, _-ℤ_}
 use lib.Pow.{pow-add, pow-mono}
-use Rattle.machine.specs.Held.{Number, number, cast, cast-low, read, minus, fits}
+use Rattle.machine.specs.Held.{Held, Number, number, cast-low, read, minus, fits}
 use Rattle.rules.specs.Rounding.{near}
 use Rattle.rules.specs.Surface.{denominator}
 use Rattle.roundings.proofs.Counted.{Counted, lift, sum, count, not-below, count-size, count-near, quotient-size}
@@ -32,27 +32,30 @@ near-is c =
     ∙ count-near (counted c) i (omega (arith, c .pre .1)) (omega arith) (λ n. omega arith) all
     ∙ ap (near (c .args .v)) (sym (denominator-power (c .args .e)))
 
-module _ (c : tie.After-to-even) where
-  quotient-most : c .to-even .result / 3 ≤ 1_318_614_336_471_673_514
-  quotient-most =
+module _ (c : tie.After-sixths) where
+  abbrev quotient : ℕ
+  quotient = let p = 2 ^ (3 * c .before .args .e + 1) in (w (c .before) + w (c .before) / p % 2) / p / 3
+
+  quotient-held : Held (c .sixths .result) (pos quotient) 1_318_614_336_471_673_514
+  quotient-held =
       let p = 2 ^ (3 * c .before .args .e + 1) in
-      let most : c .to-even .result ≤ 3_955_843_009_415_020_544 = rw (c .to-even .ensures) (quotient-size (w (c .before)) p (pow-mono {i = 1} (omega arith)) (count-size (counted (c .before)))) in
-      omega arith
+      let most = quotient-size (w (c .before)) p (pow-mono {i = 1} (omega arith)) (count-size (counted (c .before))) in
+      record { is = c .sixths .ensures; size = omega (arith, most) }
 
   abbrev result : Number
   result =
       number
-      (minus (cast (c .to-even .result / 3) 1_318_614_336_471_673_514 quotient-most tt) (cast-low (1 * 2 ^ (59 - 3 * c .before .args .e)) (1 * 2 ^ 59) (omega (arith, pow-mono {i = 59 - 3 * c .before .args .e} {j = 59} (omega arith))) tt))
+      (minus (read tt quotient-held) (cast-low (1 * 2 ^ (59 - 3 * c .before .args .e)) (1 * 2 ^ 59) (omega (arith, pow-mono {i = 59 - 3 * c .before .args .e} {j = 59} (omega arith))) tt))
 
 -- ---- what it returns
 
 returns : tie.Need-returns
-returns c = read tt (result c .held) .is ∙ ap (λ r. pos (r / 3) -ℤ pos (1 * 2 ^ (59 - 3 * c .before .args .e))) (c .to-even .ensures) ∙ near-is (c .before)
+returns c = read tt (result c .held) .is ∙ near-is (c .before)
 
 -- ---- nothing wraps
 
-mul-s : tie.Need-mul-s
-mul-s c = search needs
+mul-w : tie.Need-mul-w
+mul-w c = search needs
 
 cast-w : tie.Need-cast-w
 cast-w c = search needs
@@ -69,20 +72,17 @@ add-w-2 c = fits tt (sum (counted c) .held)
 cast-w-2 : tie.Need-cast-w-2
 cast-w-2 c = (not-below (counted c), omega (arith, count-size (counted c)))
 
-add-to-even : tie.Need-add-to-even
-add-to-even c = search needs
+sixths-requires : tie.Need-sixths-requires
+sixths-requires c κs = (omega (arith, count-size (counted c)), c .pre .1)
 
-to-even-requires : tie.Need-to-even-requires
-to-even-requires c κs = (omega (arith, count-size (counted c)), omega (arith, c .pre .1))
-
-cast-result : tie.Need-cast-result
-cast-result c = search needs
+mul-result : tie.Need-mul-result
+mul-result c = search needs
 
 sub-result : tie.Need-sub-result
 sub-result c = search needs
 
-cast-result-2 : tie.Need-cast-result-2
-cast-result-2 c = search needs
+cast-result : tie.Need-cast-result
+cast-result c = search needs
 
 shl-result : tie.Need-shl-result
 shl-result c = search needs
@@ -94,17 +94,16 @@ pub near-over-spec : {M : Type 1} → statement M
 near-over-spec =
     tie.close
     (tie.spec
-    mul-s
+    mul-w
     cast-w
     shl-w
     add-w
     add-w-2
     cast-w-2
-    add-to-even
-    to-even-requires
-    cast-result
+    sixths-requires
+    mul-result
     sub-result
-    cast-result-2
+    cast-result
     shl-result
     sub-result-2
     returns)

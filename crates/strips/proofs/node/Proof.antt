@@ -11,14 +11,14 @@ use Rattle.strips.proofs.node.Tie as tie
 node-sum-requires : tie.Need-node-sum-requires
 node-sum-requires c κs = (c .pre .0, c .pre .2, c .pre .3, c .pre .4)
 
-near-over-requires : tie.Need-near-over-requires
-near-over-requires c κs = (rw (returned (c .node-sum .ok) refl) (c .node-sum .ensures .1), c .before .pre .1)
+near-over-tested-requires : tie.Need-near-over-tested-requires
+near-over-tested-requires c κs = (rw (returned (c .node-sum .ok) refl) (c .node-sum .ensures .1), c .before .pre .1)
 
 returns : tie.Need-returns
 unfolding nodeAt
 returns c =
     let s = c .before .node-sum in
-    returned (c .near-over .ok) (c .near-over .ensures)
+    returned (c .near-over-tested .ok) (c .near-over-tested .ensures)
     ∙ ap (λ v. near v (denominator (2 ^ c .before .before .args .e))) (returned (s .ok) (s .ensures .0))
 
 pub node-spec : {M : Type 1} → statement M
@@ -26,5 +26,5 @@ node-spec =
     tie.close
     (tie.spec
     node-sum-requires
-    near-over-requires
+    near-over-tested-requires
     returns)
