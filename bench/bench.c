@@ -526,6 +526,7 @@ static void calls_table(void)
     line("height, 512 x 512, the last value is", offended_job(1));
     line("raster, 2,049 x 2,049 nodes of 512 x 512", raster_job(512, 4));
     line("raster, step 0, 1,025 x 1,025 nodes of 512 x 512", raster_job(512, 0));
+    line("raster, step 16, where a sixth of the roundings are halves", raster_job(512, 16));
     line("storage, 2,049 x 2,049 nodes", storage_job(2049));
     line("storage, 65 x 65 nodes", storage_job(65));
     line("refine, 256 x 256 to 512 x 512", refine_job(256));

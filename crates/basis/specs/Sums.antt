@@ -18,7 +18,7 @@ use Rattle.rules.specs.Surface.{numerator, denominator, cell, offset, weighted,
 use Rattle.rules.specs.Laws.Rounding.{near-within}
 use Rattle.rules.specs.Laws.Basis.{weighted-values, weighted-bound, numerators-size, cell-below, offset-within, along-bound}
 use Rattle.rules.specs.Laws.Surface.{denominator-positive, place-below, control-within}
-use Rattle.basis.specs.Weighing.{Holds, Located, four, numerators, weightSize, spaced, Weighable, lineHeight, Grounded, Readable}
+use Rattle.basis.specs.Weighing.{Holds, Located, four, numerators, weightSize, spaced, Summable, Weighable, lineHeight, Grounded, Readable}
 use Rattle.basis.specs.declared.Basis.{Basis}
 use Rattle.basis.specs.declared.Spot.{Spot}
 
@@ -127,7 +127,10 @@ module _ (f : ℕ → ℤ) (q : ℕ) (ranged : (s : ℕ) → q ≤ s → s < q +
 pub line-weight : {l : List ℤ} {q apart : ℕ} {b : Basis} {e : ℕ} → Weighable l q apart b e → weightSize b ≤ 805_306_368
 line-weight {e = e} w = le-trans (w .weight-most) (denominator-most (2 ^ e) (pow-mono {j = 9} (w .e-most)))
 
-pub spaced-ranged : {l : List ℤ} {q apart : ℕ} {b : Basis} {e : ℕ} → Weighable l q apart b e → (k : ℕ) → k < 4 → natAbs (spaced l q apart k) ≤ 4_000_000_000
+pub summable : {l : List ℤ} {q apart : ℕ} {b : Basis} {e : ℕ} → Weighable l q apart b e → Summable l q apart b
+summable w = record { stored = w .stored; weight-most = line-weight w; ranged = w .ranged }
+
+pub spaced-ranged : {l : List ℤ} {q apart : ℕ} {b : Basis} → Summable l q apart b → (k : ℕ) → k < 4 → natAbs (spaced l q apart k) ≤ 4_000_000_000
 spaced-ranged {q = q} {apart = apart} w k h = let most : k * apart ≤ 3 * apart = mul-le-mul-right apart (omega arith) in w .ranged (q + k * apart) (omega arith)
 
 -- ---- one step of the height, and both
@@ -196,7 +199,7 @@ pub line-within : {l : List ℤ} {q apart : ℕ} {b : Basis} {e : ℕ} → Weigh
 unfolding lineHeight
 line-within {l} {q} {apart} {b} {e} w =
     near-within _ (denominator (2 ^ e)) 4_000_000_000 (denominator-positive (2 ^ e) (pow-pos e))
-    (le-trans (weighted-bound (numerators b) (spaced l q apart) 0 4_000_000_000 (λ k h i. spaced-ranged w k i)) (mul-le-mul-right 4_000_000_000 (w .weight-most)))
+    (le-trans (weighted-bound (numerators b) (spaced l q apart) 0 4_000_000_000 (λ k h i. spaced-ranged (summable w) k i)) (mul-le-mul-right 4_000_000_000 (w .weight-most)))
 
 module _ {m n e : ℕ} {l : List ℤ} {x y : ℕ} (r : Readable m n e l x y) where
   pub on-x : On (2 ^ e) m x

@@ -47,7 +47,17 @@ weightSize b = totalSize (numerators b)
 abbrev pub spaced : List ℤ → ℕ → ℕ → ℕ → ℤ
 spaced lattice q apart k = getD lattice (q + k * apart) (pos 0)
 
--- four such values are stored and in range, and b can weigh them
+-- four such values are stored and in range, and b weighs them with no sum too large
+pub record Summable (lattice : List ℤ) (q apart : ℕ) (b : Basis) : Type 0 where
+  pub stored : q + 3 * apart < length lattice
+  pub weight-most : weightSize b ≤ 805_306_368
+  pub ranged : AllInRange (q + 3 * apart + 1) lattice
+
+-- their sum
+abbrev pub lineSum : List ℤ → ℕ → ℕ → Basis → ℤ
+lineSum lattice q apart b = weighted (numerators b) (spaced lattice q apart) 0
+
+-- four such values are stored and in range, and b weighs them over 6U³
 pub record Weighable (lattice : List ℤ) (q apart : ℕ) (b : Basis) (e : ℕ) : Type 0 where
   pub e-most : e ≤ 9
   pub stored : q + 3 * apart < length lattice
@@ -56,7 +66,7 @@ pub record Weighable (lattice : List ℤ) (q apart : ℕ) (b : Basis) (e : ℕ) 
 
 -- near of their sum over 6U³
 unfoldable pub lineHeight : List ℤ → ℕ → ℕ → Basis → ℕ → ℤ
-lineHeight lattice q apart b U = near (weighted (numerators b) (spaced lattice q apart) 0) (denominator U)
+lineHeight lattice q apart b U = near (lineSum lattice q apart b) (denominator U)
 
 -- a lattice that heights can be read from without a check
 pub record Grounded (m n e : ℕ) (lattice : List ℤ) : Type 0 where

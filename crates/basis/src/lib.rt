@@ -4,7 +4,7 @@ ghost use mathlib.Core.Path.{_≡_};
 ghost use Prim.Native.Nat.{_^_, _≤_, _<_};
 ghost use lib.IntN.{natAbs};
 ghost use Rattle.rules.specs.Surface as rule;
-ghost use Rattle.basis.specs.Weighing.{Weighs, Located, numerators, four, weightSize, Weighable, lineHeight};
+ghost use Rattle.basis.specs.Weighing.{Weighs, Located, numerators, four, weightSize, Summable, lineSum, Weighable, lineHeight};
 
 // Four weights, as the numerators of a position in its cell.
 pub struct Basis {
@@ -65,17 +65,22 @@ pub fn locate(x: usize, m: usize, e: u32) -> Spot
     }
 }
 
-// One step of a height: near of the sum of four control values over 6U³. They stand from place q on, each `apart` places from the one before: 1 for those of
-// a row, the row's width for those of a column.
-pub fn line_height(lattice: &[i64], q: usize, apart: usize, b: Basis, e: u32) -> i64
-    requires { ⌜ Weighable (now lattice) q apart b e ⌝ }
-    ensures { λ r. ⌜ r ≡ lineHeight (now (lattice .entry)) q apart b (2 ^ e) ⌝ }
+// The sum of four control values, weighed. They stand from place q on, each `apart` places from the one before: 1 for those of a row, the row's width for
+// those of a column.
+pub fn line_sum(lattice: &[i64], q: usize, apart: usize, b: Basis) -> i64
+    requires { ⌜ Summable (now lattice) q apart b ⌝ }
+    ensures { λ r. ⌜ (r ≡ lineSum (now (lattice .entry)) q apart b) × (natAbs r ≤ 3_221_225_472_000_000_000) ⌝ }
 {
     let q1 = q + apart;
     let q2 = q1 + apart;
     let q3 = q2 + apart;
-    roundings::near_over(
-        weighed(b, lattice[q], lattice[q1], lattice[q2], lattice[q3]),
-        e,
-    )
+    weighed(b, lattice[q], lattice[q1], lattice[q2], lattice[q3])
+}
+
+// One step of a height: near of that sum over 6U³.
+pub fn line_height(lattice: &[i64], q: usize, apart: usize, b: Basis, e: u32) -> i64
+    requires { ⌜ Weighable (now lattice) q apart b e ⌝ }
+    ensures { λ r. ⌜ r ≡ lineHeight (now (lattice .entry)) q apart b (2 ^ e) ⌝ }
+{
+    roundings::near_over(line_sum(lattice, q, apart, b), e)
 }

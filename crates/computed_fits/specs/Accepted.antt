@@ -2,21 +2,22 @@
 -- document 01's rows of a point of 9, as a hill beside a hollow; two points that disagree, each by its confidence; and a quotient of exactly 4,000,000,000.5.
 -- Levels are computed in f64. So there are fits that the rules accept.
 use mathlib.Core.Path.{_≡_, refl, ap, ap₂, _∙_}
+use mathlib.Core.Bool.{false}
 use mathlib.Core.Option.{none}
 use mathlib.Core.List.{List, [], _∷_}
 use Prim.Native.Nat.{ℕ, zero, suc, _+_, _-_, _*_, _/_, _%_, _≤_, _<_, zero-le}
 use native.Mathlib.Decide.{decLt}
 use native.Mathlib.Numerals.{add-one}
 use native.Mathlib.Omega.{arith}
-use lib.IntN.{ℤ, pos, negℤ, natAbs, _+ℤ_, _-ℤ_, +ℤ-idl, +ℤ-invr}
-use lib.Ieee.{lt, ofBits, add, mul, div, ofInt}
+use lib.IntN.{ℤ, pos, negsuc, negℤ, natAbs, _+ℤ_, _-ℤ_, +ℤ-idl, +ℤ-invr}
+use lib.Ieee.{fin, lt, ofBits, add, mul, div, ofInt}
 use lib.ListN.{length, getD, replicate, getD-replicate, List·getD-eq-default, length-replicate}
 use Rattle.algebra.specs.Solver.{var, con, _⊞_, _⊠_, solve}
 use Rattle.algebra.specs.Table.{tabulate, over, tabulate-same, tabulate-replicate}
 use Rattle.rules.specs.Rounding.{floor, nearUp, nearDown, even, near}
 use Rattle.rules.specs.Grid.{limit, inRange, confident, within, inside, cellsAt, unitAt, controls, control, store}
 use Rattle.rules.specs.Surface.{square, cube, numerator, denominator, cell, offset, weighted, along, height}
-use Rattle.rules.specs.Level.{basis, weight, addSquares, squares, noSums, grown, uses, touched, gathered, coefficient, signed, nearFloat, kept, settled, fittedAt}
+use Rattle.rules.specs.Level.{basis, weight, addSquares, squares, noSums, grown, uses, touched, gathered, fitted, coefficient, signed, nearFloat, kept, settled, fittedAt}
 use Rattle.rules.specs.Refinement.{masked, finer, finer2, refined}
 use Rattle.rules.specs.Fit.{Shape, shape, columns, rows, unitOf, Survey, survey, pointCount, pointsOf, total, nearMean, base, shifted, differences, fromBase}
 use Rattle.rules.specs.Fit.{levelValue, orZero, levelOf, levelHeight, lowered, raised, residuals, level, running, singleLattice, lastResiduals}
@@ -160,12 +161,19 @@ abbrev peakRow : ℕ → ℕ → List ℤ → List ℤ
 peakRow a b next = pos a ∷ pos b ∷ pos a ∷ pos 0 ∷ next
 
 pub record Brink : Type 0 where
+  pub quotient-is : coefficient (gathered 16 1 1 1 1 (pointsOf (fromBase brink)) noSums) ≡ fitted (fin false 8_000_000_001 (negsuc 0))
+  pub residual : lastResiduals one brink ≡ pos 232_758_621 ∷ negℤ (pos 3_491_379_310) ∷ negℤ (pos 3_491_379_311) ∷ []
   pub lattice : singleLattice one brink ≡ peakRow 250_000_000 1_000_000_000 (peakRow 1_000_000_000 4_000_000_000 (peakRow 250_000_000 1_000_000_000 (peakRow 0 0 [])))
   pub accepted-levels : inLevelsCheck one brink ≡ none
 
 pub at-the-brink : Brink
-unfolding singleLattice inLevelsCheck finalCheck shifted differences base nearMean total running levelsCheck levelCheck quotientCheck residualCheck sumCheck rangeCheck lowered levelHeight height along weighted control level levelOf levelValue fittedAt gathered touched uses weight basis squares addSquares grown noSums coefficient settled kept nearFloat signed near nearUp nearDown even floor orZero residuals store controls columns rows unitOf cellsAt unitAt tabulate pointsOf cell offset numerator denominator square cube inRange present require _then_ firstOf lt ofBits add mul div ofInt
-at-the-brink = record { lattice = refl; accepted-levels = refl }
+unfolding singleLattice lastResiduals inLevelsCheck finalCheck shifted differences base nearMean total running levelsCheck levelCheck quotientCheck residualCheck sumCheck rangeCheck lowered levelHeight height along weighted control level levelOf levelValue fittedAt gathered touched uses weight basis squares addSquares grown noSums coefficient settled kept nearFloat signed near nearUp nearDown even floor orZero residuals store controls columns rows unitOf cellsAt unitAt tabulate pointsOf cell offset numerator denominator square cube inRange present require _then_ firstOf lt ofBits add mul div ofInt
+at-the-brink = record { quotient-is = refl; residual = refl; lattice = refl; accepted-levels = refl }
+
+pub brink-accepted : (lent : Lent) → lentCheck one 3 lent ≡ none
+    → fitCall one brink lent ≡ outcome (accepted (record { m = 1; n = 1 })) (cleared one 3 (results one brink lent))
+unfolding fitCall fitEnd fitCheck surveyCheck cellsCheck hCheck listsCheck pointsCheck pointCheck spotCheck confident differenceCheck differences shifted base nearMean total near nearUp nearDown even floor tabulate rangeCheck within inside inRange columns rows cellsAt firstOf require _then_
+brink-accepted lent room = rw (room, at-the-brink .accepted-levels) refl
 
 -- ---- no points
 

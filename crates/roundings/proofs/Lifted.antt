@@ -7,7 +7,7 @@ use lib.IntN.{ℤ, pos, negsuc, _+ℤ_, _-ℤ_, _*ℤ_}
 use lib.Pow.{pow-pos, pow-add}
 use lib.Signed.{_≤ℤ_, _<ℤ_}
 use Rattle.algebra.specs.Difference.{_⊝_, posPart, negPart, split, whole}
-use Rattle.rules.specs.Rounding.{floor, near}
+use Rattle.rules.specs.Rounding.{near}
 use Rattle.rules.specs.Laws.Rounding.{Floored, floor-unique, odd, near-even}
 
 -- w is v with 2l times the divisor 2h, and with h less 1

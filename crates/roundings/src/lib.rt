@@ -10,8 +10,9 @@ ghost use Rattle.rules.specs.Surface.{denominator};
 ghost use Rattle.rules.specs.Slope.{slopeDenominator};
 ghost use Rattle.rules.specs.Laws.Rounding.{odd};
 
-// What both roundings by a shift do: w, which has half of the divisor in it, less 1, is divided by 2^s. At an exact half w is 1 below the next multiple,
-// and the lowest digit of its quotient takes it there if that quotient is odd: so a half goes to the even one of the two, and nothing else moves.
+// What the roundings by a shift do: w has half of the divisor in it, less 1, and the divisor is 2^s or 3·2^s. At an exact half w is 1 below a multiple of
+// the divisor, and the lowest digit of w / 2^s, added, takes it there if the lower of the two neighbours is odd. Elsewhere that digit moves w across no
+// multiple of the divisor.
 fn to_even(w: u64, s: u32) -> u64
     requires { ⌜ (w < 9_223_372_036_854_775_808) × (s ≤ 28) ⌝ }
     ensures { λ r. ⌜ r ≡ (w + w / 2 ^ s % 2) / 2 ^ s ⌝ }
@@ -45,7 +46,7 @@ fn lowest(v: i64) -> i64
     v - 2 * (v >> 1)
 }
 
-// near(v / d), for any d: the floor of (2v + d) / 2d, less 1 / 2d if the floor of v / d is even, which is then where an exact half goes.
+// near(v / d), for any d: the floor of (2v + d) / 2d, or of (2v + d - 1) / 2d if the floor of v / d is even, so that an exact half stays at it.
 pub fn near_any(v: i64, d: usize) -> i64
     requires { ⌜ (natAbs v ≤ 2_000_000_000_000_000_000) × (1 ≤ d) × (d ≤ 2_147_483_648) ⌝ }
     ensures { λ r. ⌜ r ≡ near v d ⌝ }
@@ -54,7 +55,7 @@ pub fn near_any(v: i64, d: usize) -> i64
     floor_over(2 * v + half, 2 * d)
 }
 
-// The quotient by 6U³ of a sum with 3U³ - 1 in it.
+// The quotient by 6U³ of a sum with 3U³ - 1 in it, an exact half to the even one.
 fn sixths(w: u64, e: u32) -> i64
     requires { ⌜ (w < 9_223_372_036_854_775_808) × (e ≤ 9) ⌝ }
     ensures { λ r. ⌜ r ≡ pos ((w + w / 2 ^ (3 * e + 1) % 2) / 2 ^ (3 * e + 1) / 3) ⌝ }
@@ -72,8 +73,8 @@ pub fn near_over(v: i64, e: u32) -> i64
     sixths(w, e) - (1 << (59 - 3 * e))
 }
 
-// The same, by a test of the sign, since near of a negative number is the negative of near: shorter, and as good for the nodes of a raster, which have one sign
-// for long.
+// The same, by a test of the sign, since near of a negative number is the negative of near: shorter, and as good for a raster, whose sums have one sign for
+// long.
 pub fn near_over_tested(v: i64, e: u32) -> i64
     requires { ⌜ (natAbs v ≤ 3_221_225_472_000_000_000) × (e ≤ 9) ⌝ }
     ensures { λ r. ⌜ r ≡ near v (denominator (2 ^ e)) ⌝ }
@@ -86,7 +87,7 @@ pub fn near_over_tested(v: i64, e: u32) -> i64
     }
 }
 
-// The greatest v for which near(v / 6U³) is not above z, that at the half if z is even: a test of v spares the rounding.
+// The greatest v for which near(v / 6U³) is not above z: at the half itself if z is even, else 1 below it. A test of v spares the rounding.
 pub fn most_under(z: i64, e: u32) -> i64
     requires { ⌜ (natAbs z ≤ 4_000_000_000) × (e ≤ 9) ⌝ }
     ensures { λ r. ⌜ ((v : ℤ) → (z <ℤ near v (denominator (2 ^ e))) ↔ (r <ℤ v)) ⌝ }

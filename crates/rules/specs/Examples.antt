@@ -136,6 +136,11 @@ table =
     -- "Example E4 becomes 0", (-1,0)=3 at (0,0). E5 (-1,0)=-3: 0
     ∷ (heightOf (single 0 1 (pos 3)) 0 0 is pos 0)
     ∷ (heightOf (single 0 1 (negℤ (pos 3))) 0 0 is pos 0)
+    -- (-1,0)=21, 15 and their negatives, at (0,0): the row is near of 7/2 and of 5/2, so the height near of 8/3 and of 4/3
+    ∷ (heightOf (single 0 1 (pos 21)) 0 0 is pos 3)
+    ∷ (heightOf (single 0 1 (negℤ (pos 21))) 0 0 is negℤ (pos 3))
+    ∷ (heightOf (single 0 1 (pos 15)) 0 0 is pos 1)
+    ∷ (heightOf (single 0 1 (negℤ (pos 15))) 0 0 is negℤ (pos 1))
     -- (-1,-1)=18, 54 and -54, at (0,0): the row is 3, 9 and -9, and the height near of 1/2, 3/2 and -3/2
     ∷ (heightOf (single 0 0 (pos 18)) 0 0 is pos 0)
     ∷ (heightOf (single 0 0 (pos 54)) 0 0 is pos 2)
@@ -154,9 +159,11 @@ table =
     ∷ (refinedAt (single 1 1 (pos 32)) 2 2 is pos 0)
     ∷ (refinedAt (single 1 1 (pos 96)) 2 2 is pos 2)
     ∷ (refinedAt (single 1 1 (negℤ (pos 96))) 2 2 is negℤ (pos 2))
-    -- slopes, (-1,-1)=9, at (0,0): near of its column, and of its row, is 2, so each is near of -125/2; without that first rounding it were -47. With 3 it is 0
+    -- slopes, (-1,-1)=9, at (0,0): near of its column, and of its row, is 2, so each is near of -125/2; without that first rounding it were -47. With -9
+    -- it is near of 125/2, and with 3 it is 0
     ∷ (slopeX 16 1 1 (single 0 0 (pos 9)) 0 0 is negℤ (pos 62))
     ∷ (slopeY 16 1 1 (single 0 0 (pos 9)) 0 0 is negℤ (pos 62))
+    ∷ (slopeX 16 1 1 (single 0 0 (negℤ (pos 9))) 0 0 is pos 62)
     ∷ (slopeX 16 1 1 (single 0 0 (pos 3)) 0 0 is pos 0)
     -- (-1,0)=3 and -3: the columns are 2 and -2, the rows 0
     ∷ (slopeX 16 1 1 (single 0 1 (pos 3)) 0 0 is negℤ (pos 62))

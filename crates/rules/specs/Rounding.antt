@@ -19,6 +19,7 @@ nearDown v d = negℤ (nearUp (negℤ v) d)
 unfoldable pub even : ℤ → Bool
 even n = eqb (natAbs n % 2) 0
 
--- "near(v/d) is the nearest whole number", and of document 02 "Let near take an exact half to the even neighbour": there alone the two differ, by 1
+-- "near(v/d) is the nearest whole number", and of document 02 "Let near take an exact half to the even neighbour": nearUp and
+-- nearDown differ at an exact half alone, by 1, and near is then the even one of them
 unfoldable pub near : ℤ → ℕ → ℤ
 near v d = cond (even (nearUp v d)) (nearUp v d) (nearDown v d)

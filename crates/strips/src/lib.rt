@@ -109,7 +109,7 @@ fn tap_sum(
 {
     let b = load_taps(taps, i);
     let c = cells[i];
-    basis::line_height(lattice, r * (s.m + 3) + c, 1, b, s.e)
+    roundings::near_over_tested(basis::line_sum(lattice, r * (s.m + 3) + c, 1, b), s.e)
 }
 
 // The ring with lattice row r summed too, at columns `from` to `to` - 1.

@@ -1,11 +1,12 @@
--- `roundings::most_under` meets its contract: near of 6U³·z + 3U³ is above z exactly if z is odd, and one less is then the greatest sum whose near is not.
+-- `roundings::most_under` meets its contract: near of 6U³·z + 3U³ is above z exactly if z is odd: then the greatest sum is one less, else that
+-- sum itself.
 use mathlib.Core.Path.{ap, _∙_}
 use mathlib.Core.Logic.{_↔_, Iff·trans}
 use Prim.Native.Nat.{ℕ, _*_, _^_, _≤_}
 use native.Mathlib.Nat.{mul-le-mul-left}
 use native.Mathlib.Omega.{arith}
 use borrow.Author.Needs.{needs}
-use lib.IntN.{ℤ, pos, natAbs, _+ℤ_, _-ℤ_, _*ℤ_}
+use lib.IntN.{ℤ, pos, _+ℤ_, _-ℤ_, _*ℤ_}
 use lib.Pow.{pow-pos, pow-mono}
 use lib.Signed.{_<ℤ_}
 use Rattle.algebra.specs.Difference.{split, whole}

@@ -4,7 +4,7 @@ use Prim.Native.Nat.{ℕ, _+_, _-_, _*_, _/_, _%_, _^_, _≤_}
 use native.Mathlib.Nat.{div-one, one-mul, mul-comm}
 use native.Mathlib.Omega.{arith}
 use borrow.Author.Needs.{needs}
-use lib.IntN.{ℤ, pos, natAbs, _-ℤ_}
+use lib.IntN.{pos, natAbs, _-ℤ_}
 use lib.Pow.{pow-add, pow-mono}
 use Rattle.machine.specs.Held.{Number, number, itself, cast, cast-low, read, minus, fits}
 use Rattle.rules.specs.Rounding.{near}

@@ -1,7 +1,7 @@
 -- `roundings::sixths` meets its contract.
 use mathlib.Core.Path.{ap, _∙_}
 use Prim.Native.Nat.{_+_, _*_, _/_, _%_, _^_, _≤_}
-use native.Mathlib.Nat.{div-le-self, le-trans}
+use native.Mathlib.Nat.{div-le-self}
 use native.Mathlib.Omega.{arith}
 use borrow.Author.Needs.{needs}
 use lib.IntN.{pos}

@@ -26,7 +26,7 @@ use Rattle.rules.specs.Fit.{Shape, columns, rows, unitOf, Survey, pointC
 use Rattle.rules.specs.Fit.{levelValue, orZero, levelOf, levelHeight, lowered, raised, residuals, level, running, singleLattice, lastResiduals}
 use Rattle.rules.specs.Fit.{present, quotientCheck, residualCheck, sumCheck, levelCheck, levelsCheck, differenceCheck, finalCheck, inLevelsCheck}
 use Rattle.rules.specs.Answers.{Refusal, position, range, confidence, difference, quotient, residual, sum}
-use Rattle.rules.specs.Answers.{Check, require, _then_, firstOf, rangeCheck, Answer, accepted, refused, answer, Outcome, outcome, call}
+use Rattle.rules.specs.Answers.{Check, require, _then_, firstOf, rangeCheck, Answer, accepted, refused, answer, Outcome, call}
 use Rattle.rules.specs.Calls.{latticeCheck, Slopes, heightCheck, heightAnswer, slopeAnswer, refineCheck, refineCall, Nodes, nodeX, nodeY, nodeHeight}
 use Rattle.rules.specs.Calls.{rasterCheck, rasterCall, listsCheck, spotCheck, pointCheck, pointsCheck, surveyCheck}
 use Rattle.rules.specs.Calls.{CellCounts, Lent, K, lentCheck, fitCheck, results, cleared, fitEnd, fitCall}
@@ -247,9 +247,9 @@ differences-odd zs = rw (base-odd zs) (shifted-odd (negℤ (base zs)) zs)
 -- ---- one level
 
 -- the sums of a control value, with heights and with their negatives
-record Opposed (one other : Sums) : Type 0 where
-  first : Opposite (one .first) (other .first)
-  second : other .second ≡ one .second
+pub record Opposed (one other : Sums) : Type 0 where
+  pub first : Opposite (one .first) (other .first)
+  pub second : other .second ≡ one .second
 
 no-sums : Opposed noSums noSums
 unfolding noSums ofBits ofFields odd
@@ -345,6 +345,16 @@ module _ (a : Shape) (s : Survey) where
       ap (λ v. lowered a k (levelOf a k (valued s v)) (valued s v)) (residuals-odd k)
       ∙ ap (λ v. lowered a k v (upsideDown before)) (levelOf-odd a k before)
       ∙ lowered-odd a k (levelOf a k before) before
+
+  -- the sums of a control value in level k, with the residuals that r has before it
+  abbrev sumsBy : Survey → ℕ → ℕ → ℕ → Sums
+  sumsBy r k i j = gathered (unitOf a k) (columns a k) (rows a k) i j (pointsOf (valued s (residuals a r k))) noSums
+
+  -- the first are opposite or zeros of either sign, the second equal
+  pub sums-opposed : (k i j : ℕ) → Opposed (sumsBy s k i j) (sumsBy (upsideDown s) k i j)
+  sums-opposed k i j =
+      rw (residuals-odd k, points-turned (valued s (residuals a s k)))
+      (gathered-opposed (unitOf a k) (columns a k) (rows a k) i j (pointsOf (valued s (residuals a s k))) no-sums)
 
   level-odd : (k : ℕ) → level a (upsideDown s) k ≡ negated (level a s k)
   unfolding level

@@ -3,11 +3,11 @@ use mathlib.Core.Path.{_≡_, refl, sym, ap, subst, _∙_}
 use mathlib.Core.Bool.{Bool, true, false, not, cond}
 use mathlib.Core.Logic.{_↔_, inl, inr}
 use Prim.Native.Nat.{ℕ, zero, suc, _+_, _*_, _%_, _≤_, _<_, zero-le}
-use native.Mathlib.Nat.{div-add-mod, mod-lt, div-div-eq-div-mul, le-of-mul-le-mul-left}
+use native.Mathlib.Nat.{div-add-mod, mod-lt, le-of-mul-le-mul-left}
 use native.Mathlib.Omega.{arith}
 use native.Mathlib.Decide.{decLt}
 use lib.Dec.{T, eqb, eqb→eq}
-use lib.IntN.{ℤ, pos, negsuc, negℤ, natAbs, _+ℤ_, _-ℤ_, _*ℤ_, negℤ-negℤ, +ℤ-idr, +ℤ-invr, *ℤ-comm}
+use lib.IntN.{ℤ, pos, negsuc, negℤ, natAbs, _+ℤ_, _-ℤ_, _*ℤ_, negℤ-negℤ, +ℤ-idr, +ℤ-invr}
 use lib.Signed.{shrZ, _≤ℤ_, _<ℤ_, ≤ℤ-refl}
 use Rattle.algebra.specs.Difference.{split, whole}
 use Rattle.algebra.specs.Size.{≤ℤ-trans, ≤ℤ-<ℤ-trans, ≤ℤ-antisym, <ℤ-suc, suc-≤ℤ, ≤ℤ-or-<ℤ, ≡-or-<ℤ, ≤ℤ-scale, <ℤ-cancel, natAbs-sum, natAbs-neg, natAbs-product, same-of-natAbs}
@@ -36,7 +36,7 @@ below : (v : ℤ) (d : ℕ) (m n : ℤ) → (pos d *ℤ m) ≤ℤ v → v <ℤ (
 below v d m n l k = <ℤ-suc m n .0 (<ℤ-cancel d m (n +ℤ pos 1) (≤ℤ-<ℤ-trans l k))
 
 -- so the whole numbers that are at most v / d are those up to its floor
-pub below-floor : (v z : ℤ) (d : ℕ) → 0 < d → (z ≤ℤ floor v d) ↔ ((pos d *ℤ z) ≤ℤ v)
+below-floor : (v z : ℤ) (d : ℕ) → 0 < d → (z ≤ℤ floor v d) ↔ ((pos d *ℤ z) ≤ℤ v)
 below-floor v z d h = (λ k. ≤ℤ-trans (≤ℤ-scale d k) (f .low), λ k. below v d z (floor v d) k (f .high))
   where
     f : Floored v d (floor v d)
@@ -280,9 +280,6 @@ near-monotone v w d h = rounds-monotone (near-rounds d h) v w
 pub near-exact : (n : ℤ) (d : ℕ) → 0 < d → near (pos d *ℤ n) d ≡ n
 near-exact n d h = rounds-exact (near-rounds d h) n
 
-pub near-exact-right : (n : ℤ) (d : ℕ) → 0 < d → near (n *ℤ pos d) d ≡ n
-near-exact-right n d h = rw (*ℤ-comm n (pos d)) (near-exact n d h)
-
 -- what is at most n units is rounded to at most n
 pub near-most : (v n : ℤ) (d : ℕ) → 0 < d → v ≤ℤ (pos d *ℤ n) → near v d ≤ℤ n
 near-most v n d h l = rw (near-exact n d h) at (near-monotone v (pos d *ℤ n) d h l)
@@ -290,14 +287,9 @@ near-most v n d h l = rw (near-exact n d h) at (near-monotone v (pos d *ℤ n) d
 pub near-within : (v : ℤ) (d B : ℕ) → 0 < d → natAbs v ≤ d * B → natAbs (near v d) ≤ B
 near-within v d B h = rounds-within (near-rounds d h) v B
 
--- ---- how code divides: by a shift, and step by step
+-- ---- how code divides: by a shift
 
 pub shift-floor : (v : ℤ) (d : ℕ) → shrZ v d ≡ floor v d
 unfolding floor
 shift-floor (pos a) d = refl
 shift-floor (negsuc a) d = refl
-
-pub floor-floor : (v : ℤ) (a b : ℕ) → floor (floor v a) b ≡ floor v (a * b)
-unfolding floor
-floor-floor (pos n) a b = ap pos (div-div-eq-div-mul n a b)
-floor-floor (negsuc n) a b = ap negsuc (div-div-eq-div-mul n a b)
