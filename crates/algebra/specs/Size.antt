@@ -3,7 +3,7 @@ use mathlib.Core.Path.{_≡_, refl, sym, ap, _∙_}
 use mathlib.Core.Logic.{_↔_, _⊎_, inl, inr}
 use mathlib.Core.Bool.{Bool, true, false, not}
 use Prim.Native.Nat.{ℕ, zero, suc, _+_, _-_, _*_, _/_, _%_, _≤_, _<_}
-use native.Mathlib.Nat.{add-comm, add-mul, mul-le-mul-left, lt-of-mul-lt-mul-left, add-sub-of-le, div-add-mod', le-div-iff-mul-le, add-mul-div-right}
+use native.Mathlib.Nat.{add-comm, add-mul, mul-le-mul-left, lt-of-mul-lt-mul-left, add-sub-of-le, div-add-mod', le-div-iff-mul-le, div-lt-iff-lt-mul, add-mul-div-right}
 use native.Mathlib.Decide.{decLt}
 use native.Mathlib.Omega.{arith}
 use lib.IntN.{ℤ, pos, negsuc, negℤ, natAbs, _+ℤ_, _-ℤ_, _*ℤ_}
@@ -103,3 +103,17 @@ product-div a b d h =
     ∙ ap (λ v. v / d) (add-mul (a / d * d) (a % d) b ∙ omega arith)
     ∙ add-mul-div-right (a % d * b) (a / d * b) h
     ∙ add-comm (a % d * b / d) (a / d * b)
+
+-- ---- the same, rounded up
+
+pub ceil-le : (a d v : ℕ) → 0 < d → ((a + (d - 1)) / d ≤ v) ↔ (a ≤ v * d)
+ceil-le a d v h =
+    let under = div-lt-iff-lt-mul {x = a + (d - 1)} {y = suc v} h in
+    (λ l. let m = under .0 (omega arith) in omega arith, λ l. let m = under .1 (omega arith) in omega arith)
+
+pub product-ceil : (a b d : ℕ) → 0 < d → (a * b + (d - 1)) / d ≡ a / d * b + (a % d * b + (d - 1)) / d
+product-ceil a b d h =
+    ap (λ v. (v * b + (d - 1)) / d) (sym (div-add-mod' a d))
+    ∙ ap (λ v. v / d) (ap (λ v. v + (d - 1)) (add-mul (a / d * d) (a % d) b) ∙ omega arith)
+    ∙ add-mul-div-right (a % d * b + (d - 1)) (a / d * b) h
+    ∙ add-comm ((a % d * b + (d - 1)) / d) (a / d * b)

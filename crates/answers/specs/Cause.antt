@@ -4,7 +4,7 @@ use mathlib.Core.Bool.{Bool, true, false}
 use mathlib.Core.Option.{none, some}
 use Rattle.rules.specs.Answers as rule
 use Rattle.answers.specs.declared.Refusal.{Refusal}
-use Rattle.answers.specs.declared.Refusal.the-variants.{Cells, Levels, Unit, Lists, Short, Position, Range, Confidence, Difference, Quotient, Residual, Sum, Size, Side, Incomplete, Mark, Field, Trailing}
+use Rattle.answers.specs.declared.Refusal.the-variants.{Cells, Levels, Unit, Lists, Short, Position, Range, Confidence, Difference, Quotient, Residual, Sum, Size, Side, NoStage, Incomplete, Mark, Field, Trailing}
 use Rattle.answers.specs.declared.Verdict.{Verdict}
 use Rattle.answers.specs.declared.Verdict.the-variants.{Fine, Refused}
 
@@ -23,6 +23,7 @@ cause (Residual k) = rule.residual k
 cause (Sum k) = rule.sum k
 cause Size = rule.size
 cause Side = rule.side
+cause NoStage = rule.noStage
 cause (Incomplete b) = rule.incomplete b
 cause (Mark b) = rule.mark b
 cause (Field b) = rule.field b

@@ -4,17 +4,19 @@ ghost use Rattle.rules.specs.Fit.{shape, survey};
 ghost use Rattle.rules.specs.Calls as calls;
 ghost use Rattle.rules.specs.Above as rule;
 ghost use Rattle.rules.specs.Storage as pond;
+ghost use Rattle.rules.specs.Stage.{LowestStage, stageForAnswer};
 ghost use Rattle.rules.specs.Demand3.{CloseEverywhere};
 ghost use Rattle.rules.specs.LatticeFile as latticeFile;
 ghost use Rattle.rules.specs.PointFile as pointFile;
 ghost use Rattle.storage.specs.Sampled.{Sampled, sampledAnswer};
-ghost use Rattle.fields.specs.Fields.{handed, inFields, cellsFields, heightFields, slopeFields, countFields, headerFields, aboveFields, storageFields};
+ghost use Rattle.fields.specs.Fields.{handed, inFields, cellsFields, heightFields, slopeFields, countFields, headerFields, aboveFields, storageFields, stageFields};
 use fields::AboveAnswer;
 use fields::CellsAnswer;
 use fields::CountAnswer;
 use fields::HeaderAnswer;
 use fields::HeightAnswer;
 use fields::SlopeAnswer;
+use fields::StageAnswer;
 use fields::StorageAnswer;
 
 #[no_mangle]
@@ -126,6 +128,21 @@ pub extern "C" fn curlew_storage_at(
     ensures { λ r. ⌜ (Sampled columns rows (now (heights .entry)) → r ≡ storageFields (sampledAnswer columns rows (now (heights .entry)) stage side)) ⌝ }
 {
     fields::storage(storage::storage(columns, rows, heights, stage, side))
+}
+
+// What is accepted is the lowest stage in range that stores at least the wanted litres.
+#[no_mangle]
+pub extern "C" fn curlew_stage_for(
+    columns: usize,
+    rows: usize,
+    heights: &[i64],
+    wanted: u64,
+    side: usize,
+) -> StageAnswer
+    ensures { λ r. ⌜ r ≡ stageFields (stageForAnswer columns rows (now (heights .entry)) wanted side) ⌝ }
+    ensures { λ r. ⌜ (r .number ≡ 0 → LowestStage columns rows (now (heights .entry)) wanted side (r .stage)) ⌝ }
+{
+    fields::stage(stages::stage_for(columns, rows, heights, wanted, side))
 }
 
 #[no_mangle]

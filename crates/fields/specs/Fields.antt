@@ -13,6 +13,7 @@ use Rattle.fields.specs.declared.CountAnswer.{CountAnswer}
 use Rattle.fields.specs.declared.HeaderAnswer.{HeaderAnswer}
 use Rattle.fields.specs.declared.AboveAnswer.{AboveAnswer}
 use Rattle.fields.specs.declared.StorageAnswer.{StorageAnswer}
+use Rattle.fields.specs.declared.StageAnswer.{StageAnswer}
 
 -- the fields of an answer, and the slices as the call leaves them
 pub record Handed (A B : Type 0) : Type 0 where
@@ -54,3 +55,7 @@ aboveFields (refused r) = record { number = rule.number r; place = rule.place r;
 abbrev pub storageFields : rule.Answer ℕ → StorageAnswer
 storageFields (accepted v) = record { number = 0; place = 0; litres = v }
 storageFields (refused r) = record { number = rule.number r; place = rule.place r; litres = 0 }
+
+abbrev pub stageFields : rule.Answer ℤ → StageAnswer
+stageFields (accepted z) = record { number = 0; place = 0; stage = z }
+stageFields (refused r) = record { number = rule.number r; place = rule.place r; stage = pos 0 }

@@ -8,13 +8,15 @@ ghost use Rattle.slopes.specs.Sloping as sloped;
 ghost use Rattle.point_records.specs.Read as pointsRead;
 ghost use Rattle.above.specs.Told as inspected;
 ghost use Rattle.storage.specs.Told as stored;
-ghost use Rattle.fields.specs.Fields.{cellsFields, heightFields, slopeFields, countFields, headerFields, aboveFields, storageFields};
+ghost use Rattle.stages.specs.Told as staged;
+ghost use Rattle.fields.specs.Fields.{cellsFields, heightFields, slopeFields, countFields, headerFields, aboveFields, storageFields, stageFields};
 use above::Inspected;
 use answers::CellsTold;
 use answers::CountTold;
 use heights::Reading;
 use point_records::PointsRead;
 use slopes::Sloped;
+use stages::StageTold;
 use storage::Stored;
 
 #[repr(C)]
@@ -69,6 +71,13 @@ pub struct StorageAnswer {
     pub number: usize,
     pub place: usize,
     pub litres: u64,
+}
+
+#[repr(C)]
+pub struct StageAnswer {
+    pub number: usize,
+    pub place: usize,
+    pub stage: i64,
 }
 
 pub fn cells(answer: CellsTold) -> CellsAnswer
@@ -201,6 +210,23 @@ pub fn storage(answer: Stored) -> StorageAnswer
             place: answers::place(r),
             number: answers::number(r),
             litres: 0,
+        },
+    }
+}
+
+pub fn stage(answer: StageTold) -> StageAnswer
+    ensures { λ r. ⌜ r ≡ stageFields (staged.told answer) ⌝ }
+{
+    match answer {
+        StageTold::Stage(z) => StageAnswer {
+            number: 0,
+            place: 0,
+            stage: z,
+        },
+        StageTold::Refused(r) => StageAnswer {
+            place: answers::place(r),
+            number: answers::number(r),
+            stage: 0,
         },
     }
 }

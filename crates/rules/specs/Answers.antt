@@ -34,6 +34,8 @@ pub data Refusal : Type 0 where
   size : Refusal
   -- "a side outside its range", of document 02
   side : Refusal
+  -- "None is reported precisely where even 4,000,000,000 stores less", of document 02
+  noStage : Refusal
   -- "record incomplete", "wrong mark": the byte of its start
   incomplete : ℕ → Refusal
   mark : ℕ → Refusal
@@ -42,7 +44,7 @@ pub data Refusal : Type 0 where
   -- "bytes after the end": the first such byte
   trailing : ℕ → Refusal
 
--- the column "Number", and of document 02 "13 for a residual and 14 for a sum", 15, 16 and 17
+-- the column "Number", and of document 02 "13 for a residual and 14 for a sum", 15, 16, 17 and 18
 abbrev pub number : Refusal → ℕ
 number cells = 1
 number levels = 2
@@ -58,6 +60,7 @@ number (residual k) = 13
 number (sum k) = 14
 number size = 8
 number side = 16
+number noStage = 18
 number (incomplete b) = 9
 number (mark b) = 10
 number (field b) = 11
@@ -79,6 +82,7 @@ place (residual k) = k
 place (sum k) = k
 place size = 0
 place side = 0
+place noStage = 0
 place (incomplete b) = b
 place (mark b) = b
 place (field b) = b
@@ -100,6 +104,7 @@ inLevels (residual k) = true
 inLevels (sum k) = true
 inLevels size = false
 inLevels side = false
+inLevels noStage = false
 inLevels (incomplete b) = false
 inLevels (mark b) = false
 inLevels (field b) = false

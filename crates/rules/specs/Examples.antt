@@ -1,11 +1,11 @@
 -- "Table of checked examples" of document 01: E1 to E8 and the three near examples, with halves of both signs wherever near stands, slopes that tell the
--- order of their roundings, bases that tell near from floor, what a raster's step 0 stands for, storages, the ground above a stage, and points with a
+-- order of their roundings, bases that tell near from floor, what a raster's step 0 stands for, storages, stages for a wanted storage, the ground above a stage, and points with a
 -- confidence and their files, with the order of their refusals, as one computed table.
 use Prim.Native.Nat.{ℕ, zero, suc, _+_, _*_, _/_, _%_}
 use mathlib.Core.Bool.{Bool, true, false, _&&_, cond}
 use mathlib.Core.Option.{Option, none, some}
 use mathlib.Core.List.{List, [], _∷_, _++_}
-use lib.Dec.{T, eqb}
+use lib.Dec.{T, leb, eqb}
 use lib.IntN.{ℤ, pos, negsuc, negℤ}
 use lib.Ieee.{Float, fin, binary64, add, mul, div, ofInt, ofBits, toBits, size as digits}
 use lib.ListN.{replicate, take, drop}
@@ -24,6 +24,7 @@ use Rattle.rules.specs.Bytes.{bytesOf, numberOf, complement, uncomplemen
 use Rattle.rules.specs.PointFile.{PH, PT, PQ, Kind, pt, pq, pointRecord, pointHead, pointStart, fileShape, filePoints, kindOf, fileX, fileY, fileZ, lastNumber, fileQ}
 use Rattle.rules.specs.PointFile.{pointHeadCheck, pointRecordCheck, pointFileCheck}
 use Rattle.rules.specs.Storage.{depth, depths, litres, storage, sideCheck, pondCheck, heightsCheck, storageCheck}
+use Rattle.rules.specs.Stage.{enough, lowestOf, stageAt, reachCheck, stageForCheck}
 use Rattle.rules.specs.Above.{anyOf, above, anyAbove, aboveCheck, aboveAnswer}
 
 -- "one control value set, others 0": v in column s and row t, which are the indices (s - 1, t - 1)
@@ -205,6 +206,23 @@ table =
     ∷ (refusalOf (storageCheck 1 1 (tooHigh ∷ []) tooHigh 100) is pos 6_000)
     ∷ (refusalOf (storageCheck 1 2 (pos 0 ∷ tooHigh ∷ []) (pos 0) 1) is pos 6_002)
     ∷ (refusalOf (storageCheck 1 1 (pos 0 ∷ tooHigh ∷ []) (pos 0) 1) is pos 0)
+    -- "stores at least the wanted litres": 1 litre on one node, at the stage that stores just that and a micrometre below it; "in range", from the lowest up
+    ∷ (pos (cond (enough 1 1 (pos 0 ∷ []) 1 1 (pos 100_000)) 1 0) is pos 1)
+    ∷ (pos (cond (enough 1 1 (pos 0 ∷ []) 1 1 (pos 99_999)) 1 0) is pos 0)
+    ∷ (pos (lowestOf 5 (λ k. leb 3 k)) is pos 3)
+    ∷ (pos (lowestOf 3 (λ k. leb 3 k)) is pos 3)
+    ∷ (stageAt 0 is negℤ (pos 4_000_000_000))
+    ∷ (stageAt 8_000_000_000 is pos 4_000_000_000)
+    -- its refusals: 8, 4, 16, 6 with the heights "indexed from 1", and 18 "last of all": 40,000 litres are just what 4,000,000,000 stores on one node at 0, and
+    -- nothing is stored on no node
+    ∷ (refusalOf (stageForCheck 0 8_194 [] 1 0) is pos 8_000)
+    ∷ (refusalOf (stageForCheck 1 1 [] 1 0) is pos 4_000)
+    ∷ (refusalOf (stageForCheck 1 1 (tooHigh ∷ []) 40_001 101) is pos 16_000)
+    ∷ (refusalOf (stageForCheck 1 2 (pos 0 ∷ tooHigh ∷ []) 80_001 1) is pos 6_002)
+    ∷ (refusalOf (stageForCheck 1 1 (pos 0 ∷ []) 40_000 1) is pos 0)
+    ∷ (refusalOf (stageForCheck 1 1 (pos 0 ∷ []) 40_001 1) is pos 18_000)
+    ∷ (refusalOf (stageForCheck 0 1 [] 0 1) is pos 0)
+    ∷ (refusalOf (stageForCheck 0 1 [] 1 1) is pos 18_000)
     -- "Does any ground stand above a stage": level ground at 9, with the stage at 8 and at 9; the last node at 1 and all others at 0, with the stage at 0 and
     -- at 1; "An empty rectangle is no"
     ∷ (aboveOf (aboveAnswer 1 1 16 level (nodes 0 0 0 3 3) (pos 8)) is pos 1)
@@ -258,5 +276,5 @@ table =
 
 -- the whole table, computed
 pub examples : T (allHold table)
-unfolding table allHold _is_ equal single heightOf refinedAt nonzero floor nearUp nearDown even near square cube numerator denominator cell offset weighted along height masked finer finer2 refined slopeNumerator slopeDenominator slopeAlong slopeX slopeY total nearMean base signed nearFloat kept keptOf defaultStep stepOf nodeX nodeY refusalOf posPart depth depths litres storage inRange within require _then_ firstOf rangeCheck countsCheck sideCheck pondCheck stageCheck heightsCheck storageCheck aboveOf anyOf above anyAbove control controls cellsCheck unitCheck latticeCheck sizeCheck nodeCheck nodesCheck aboveCheck answer aboveAnswer listsCheck pointsCheck pointCheck spotCheck inside confident columns rows cellsAt bytesOf numberOf complement uncomplement valueBytes numberAt valueAt same recordCheck PH PT PQ pointHead pointRecord pointStart fileShape filePoints kindOf fileX fileY fileZ lastNumber fileQ pointHeadCheck pointRecordCheck pointFileCheck grown noSums touched uses weight basis squares addSquares add mul div ofInt ofBits toBits digits
+unfolding table allHold _is_ equal single heightOf refinedAt nonzero floor nearUp nearDown even near square cube numerator denominator cell offset weighted along height masked finer finer2 refined slopeNumerator slopeDenominator slopeAlong slopeX slopeY total nearMean base signed nearFloat kept keptOf defaultStep stepOf nodeX nodeY refusalOf posPart depth depths litres storage inRange within require _then_ firstOf rangeCheck countsCheck sideCheck pondCheck stageCheck heightsCheck storageCheck enough lowestOf stageAt reachCheck stageForCheck aboveOf anyOf above anyAbove control controls cellsCheck unitCheck latticeCheck sizeCheck nodeCheck nodesCheck aboveCheck answer aboveAnswer listsCheck pointsCheck pointCheck spotCheck inside confident columns rows cellsAt bytesOf numberOf complement uncomplement valueBytes numberAt valueAt same recordCheck PH PT PQ pointHead pointRecord pointStart fileShape filePoints kindOf fileX fileY fileZ lastNumber fileQ pointHeadCheck pointRecordCheck pointFileCheck grown noSums touched uses weight basis squares addSquares add mul div ofInt ofBits toBits digits
 examples = tt

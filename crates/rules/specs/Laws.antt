@@ -11,6 +11,7 @@ pub mod Slope
 pub mod TwoScale
 pub mod Raster
 pub mod Storage
+pub mod Stage
 pub mod Above
 pub mod Fit
 pub mod Base

@@ -7,6 +7,7 @@ pub mod Refinement
 pub mod Fit
 pub mod Calls
 pub mod Storage
+pub mod Stage
 pub mod Above
 pub mod Demand3
 pub mod Bytes

@@ -68,14 +68,18 @@ module _ {columns rows : ℕ} {heights : List ℤ} (s : Sampled columns rows hei
       (λ i l. entry-in-range (s .m) (s .n) (s .unit) (s .lattice) g (s .lent) (s .answered) heights (s .rules) (s .count) (s .is) i (rw (← count-is) l))
 
   -- nor are the columns, the rows and the slice
-  pub sampled-check : (stage : ℤ) (side : ℕ) → storageCheck columns rows heights stage side ≡ (sideCheck side then stageCheck stage)
-  unfolding storageCheck pondCheck
-  sampled-check stage side =
+  pub sampled-pond : (side : ℕ) → pondCheck columns rows heights side ≡ sideCheck side
+  unfolding pondCheck
+  sampled-pond side =
       let room = leb (columns * rows) (length heights) in
       let counts = counted (s .m) (s .n) (s .unit) (s .lattice) g (s .lent) (s .answered) heights (s .rules) (s .count) (s .is) in
       let held = entries-held (s .m) (s .n) (s .unit) (s .lattice) g (s .lent) (s .answered) heights (s .rules) (s .count) (s .is) in
-      ap (λ c. c then stageCheck stage then heightsCheck (columns * rows) heights)
-      (then-none (countsCheck columns rows) _ counts ∙ then-none (require room short) _ (require-met room short (le→leb (columns * rows) (length heights) (rw count-is held))))
+      then-none (countsCheck columns rows) _ counts ∙ then-none (require room short) _ (require-met room short (le→leb (columns * rows) (length heights) (rw count-is held)))
+
+  pub sampled-check : (stage : ℤ) (side : ℕ) → storageCheck columns rows heights stage side ≡ (sideCheck side then stageCheck stage)
+  unfolding storageCheck
+  sampled-check stage side =
+      ap (λ c. c then stageCheck stage then heightsCheck (columns * rows) heights) (sampled-pond side)
       ∙ ap (λ c. sideCheck side then stageCheck stage then c) heights-unrefused
       ∙ ap (λ c. sideCheck side then c) (then-pass (stageCheck stage))
 

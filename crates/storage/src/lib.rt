@@ -29,7 +29,7 @@ enum Summed {
 // "Depth at a node is stage less height where positive, else 0". No sign is tested, so that a sum of depths is fast: 0 less the top bit of height less stage
 // is a mask that keeps all its bits where it is negative, and else none. The other way round, and with signed numbers, the compiler makes the greater
 // of it and 0, for which plain x86-64 has no instruction two at a time.
-fn depth(stage: i64, height: i64) -> u64
+pub fn depth(stage: i64, height: i64) -> u64
     requires { ⌜ (natAbs stage ≤ limit) × (natAbs height ≤ limit) ⌝ }
     ensures { λ r. ⌜ r ≡ rule.depth stage height ⌝ }
 {
@@ -83,7 +83,7 @@ fn checked_sum(heights: &[i64], count: usize, stage: i64) -> Summed
 
 // 8, 4 and 16: what does not depend on the stage or on any height. A raster tests its columns and rows by itself (`nodes::sizes`): a function for both
 // gives the raster's loops other registers, and they are slower.
-fn pond_checks(columns: usize, rows: usize, heights: &[i64], side: usize) -> Verdict
+pub fn pond_checks(columns: usize, rows: usize, heights: &[i64], side: usize) -> Verdict
     ensures { λ r. ⌜ check r ≡ rule.pondCheck columns rows (now (heights .entry)) side ⌝ }
 {
     if 8_193 < columns {

@@ -16,7 +16,7 @@ use lib.IntN.{ℤ, pos, natAbs}
 use lib.ListN.{getD}
 use mir.Facts.{and-yes, yes-and}
 use Rattle.rules.specs.Grid.{limit, inRange, confident, within}
-use Rattle.rules.specs.Answers.{Refusal, cells, levels, unit, lists, short, position, range, confidence, difference, quotient, residual, sum, size, side, incomplete, mark, field, trailing, number, inLevels}
+use Rattle.rules.specs.Answers.{Refusal, cells, levels, unit, lists, short, position, range, confidence, difference, quotient, residual, sum, size, side, noStage, incomplete, mark, field, trailing, number, inLevels}
 use Rattle.rules.specs.Answers.{Check, require, _then_, firstOf, rangeCheck, Answer, accepted, refused, answer, Outcome, outcome, call}
 
 -- ---- one check
@@ -320,6 +320,7 @@ in-levels (residual k) = refl
 in-levels (sum k) = refl
 in-levels size = refl
 in-levels side = refl
+in-levels noStage = refl
 in-levels (incomplete b) = refl
 in-levels (mark b) = refl
 in-levels (field b) = refl
@@ -345,6 +346,7 @@ number-some (residual k) e = omega arith
 number-some (sum k) e = omega arith
 number-some size e = omega arith
 number-some side e = omega arith
+number-some noStage e = omega arith
 number-some (incomplete b) e = omega arith
 number-some (mark b) e = omega arith
 number-some (field b) e = omega arith

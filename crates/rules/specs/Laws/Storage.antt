@@ -1,8 +1,8 @@
 -- Laws of pond storage: a higher stage never stores less, how much there is at most, and how code works it out: litres in two parts, and a raster part by part.
 use mathlib.Core.Path.{_≡_, sym, ap, ap₂, _∙_}
-use mathlib.Core.Option.{none}
+use mathlib.Core.Option.{none, some}
 use mathlib.Core.List.{List}
-use Prim.Native.Nat.{ℕ, zero, suc, _+_, _*_, _/_, _%_, _≤_}
+use Prim.Native.Nat.{ℕ, zero, suc, _+_, _*_, _/_, _%_, _≤_, _<_}
 use native.Mathlib.Nat.{le-trans, add-le-add, mul-le-mul, mul-le-mul-right, add-zero, add-suc, add-assoc}
 use native.Mathlib.Omega.{arith}
 use lib.Dec.{lit<, leb, leb→le}
@@ -12,10 +12,10 @@ use lib.Signed.{_≤ℤ_}
 use Rattle.algebra.specs.Difference.{split, whole, posPart-⊝}
 use Rattle.algebra.specs.Size.{div-rises, product-div}
 use Rattle.rules.specs.Grid.{limit, within}
-use Rattle.rules.specs.Answers.{short, side, range, require}
+use Rattle.rules.specs.Answers.{short, side, range, place, require}
 use Rattle.rules.specs.Calls.{countsCheck, stageCheck}
 use Rattle.rules.specs.Storage.{depth, depths, litres, storage, sideCheck, pondCheck, heightsCheck, storageCheck}
-use Rattle.rules.specs.Laws.Checks.{required, within-bounds, then-both, AllInRange, rangeCheck-size, Part}
+use Rattle.rules.specs.Laws.Checks.{required, within-bounds, then-both, AllInRange, rangeCheck-size, rangeCheck-refusal, Part}
 use Rattle.rules.specs.Laws.Passed.{counts-passed, stage-passed}
 
 -- ---- "A higher stage never stores less"
@@ -24,12 +24,12 @@ depth-rises : (z low high : ℤ) → low ≤ℤ high → depth low z ≤ depth h
 unfolding depth
 depth-rises z low high = rw (split z, split low, split high) (simp (whole, posPart-⊝) (omega arith))
 
-depths-rise : (n : ℕ) (heights : List ℤ) (low high : ℤ) → low ≤ℤ high → depths n heights low ≤ depths n heights high
+pub depths-rise : (n : ℕ) (heights : List ℤ) (low high : ℤ) → low ≤ℤ high → depths n heights low ≤ depths n heights high
 unfolding depths
 depths-rise zero heights low high h = omega arith
 depths-rise (suc n) heights low high h = add-le-add (depths-rise n heights low high h) (depth-rises (getD heights n (pos 0)) low high h)
 
-litres-rise : (s : ℕ) {a b : ℕ} → a ≤ b → litres a s ≤ litres b s
+pub litres-rise : (s : ℕ) {a b : ℕ} → a ≤ b → litres a s ≤ litres b s
 unfolding litres
 litres-rise s h = div-rises 100_000 (lit< tt) (mul-le-mul-right (s * s) h)
 
@@ -62,18 +62,27 @@ litres-most sum s h k = div-rises 100_000 (lit< tt) (mul-le-mul h (mul-le-mul k 
 -- ---- what passed checks have shown
 
 pub pond-passed : (columns rows : ℕ) (heights : List ℤ) (s : ℕ) → pondCheck columns rows heights s ≡ none
-    → (columns * rows ≤ 8_193 * 8_193) × (columns * rows ≤ length heights) × (s ≤ 100)
+    → (columns * rows ≤ 8_193 * 8_193) × (columns * rows ≤ length heights) × (s ≤ 100) × (0 < s)
 unfolding pondCheck sideCheck
 pond-passed columns rows heights s e =
     let room = leb (columns * rows) (length heights) in
     let a = then-both (countsCheck columns rows) _ e in
     let b = then-both (require room short) _ (a .1) in
     let counts = counts-passed columns rows (a .0) in
-    (mul-le-mul (counts .0) (counts .1), leb→le (columns * rows) (length heights) (required room short (b .0)), within-bounds 1 100 s (required (within 1 100 s) side (b .1)) .1)
+    let sides = within-bounds 1 100 s (required (within 1 100 s) side (b .1)) in
+    (mul-le-mul (counts .0) (counts .1), leb→le (columns * rows) (length heights) (required room short (b .0)), sides .1, sides .0)
 
 pub heights-passed : (n : ℕ) (heights : List ℤ) → heightsCheck n heights ≡ none → AllInRange n heights
 unfolding heightsCheck
 heights-passed n heights e = rangeCheck-size n heights (λ i. range (i + 1)) e
+
+-- the place of a refusal is that of one of n heights
+pub place-most : (n : ℕ) (heights : List ℤ) (p : ℕ) → heightsCheck n heights ≡ some (range p) → p ≤ n
+unfolding heightsCheck
+place-most n heights p e =
+    let q = rangeCheck-refusal n heights (λ j. range (j + 1)) (range p) e in
+    let same : q .0 + 1 ≡ p = ap place (q .3) in
+    omega (arith, same, q .1)
 
 -- the litres of an accepted storage
 pub storage-most : (columns rows : ℕ) (heights : List ℤ) (stage : ℤ) (s : ℕ) → storageCheck columns rows heights stage s ≡ none

@@ -12,10 +12,10 @@ use mir.Val.{toZ, ofZ}
 use Rattle.algebra.specs.Table.{length-area, getD-area, area-part}
 use Rattle.machine.specs.Held.{Held, itself, read, small}
 use Rattle.rules.specs.Grid.{limit}
-use Rattle.rules.specs.Answers.{Refusal, range, place, Check, firstOf, rangeCheck}
+use Rattle.rules.specs.Answers.{Refusal, range, Check, firstOf, rangeCheck}
 use Rattle.rules.specs.Storage.{depths, heightsCheck}
-use Rattle.rules.specs.Laws.Checks.{then-none, AllInRange, Part, rangeCheck-size, rangeCheck-refusal, rangeCheck-part, rangeCheck-longer, none-answer, some-answer}
-use Rattle.rules.specs.Laws.Storage.{sum-most, depths-part}
+use Rattle.rules.specs.Laws.Checks.{then-none, AllInRange, Part, rangeCheck-size, rangeCheck-part, rangeCheck-longer, none-answer, some-answer}
+use Rattle.rules.specs.Laws.Storage.{sum-most, place-most, depths-part}
 use Rattle.range.specs.Found.{foundCheck}
 use Rattle.storage.proofs.checked_sum.Statement.{statement}
 use Rattle.storage.proofs.checked_sum.Tie as tie
@@ -42,14 +42,6 @@ module _ (heights : List ℤ) (i w : ℕ) (held : i + w ≤ length heights) wher
   with-block : heightsCheck i heights ≡ none → heightsCheck (i + w) heights ≡ rangeCheck w block (λ k. range (i + k + 1))
   unfolding heightsCheck
   with-block passed = rangeCheck-part i w heights block (λ j. range (j + 1)) block-part ∙ then-none _ _ passed
-
--- the place of a refusal is that of one of n heights
-place-most : (n : ℕ) (heights : List ℤ) (p : ℕ) → heightsCheck n heights ≡ some (range p) → p ≤ n
-unfolding heightsCheck
-place-most n heights p e =
-    let q = rangeCheck-refusal n heights (λ j. range (j + 1)) (range p) e in
-    let same : q .0 + 1 ≡ p = ap place (q .3) in
-    omega (arith, same, q .1)
 
 -- ---- the numbers of a turn
 
