@@ -1,11 +1,12 @@
 /*
- * A second implementation of document 01 and of document 02's jobs 1 and 3 to 9, written from
+ * A second implementation of document 01 and of document 02's jobs 1 and 3 to 10, written from
  * their text: its author had document 01 and the interface reference.h, the later author of the
  * slopes that job's text too, and this file as it stood, and the authors of refusals 13 and 14,
  * of the base, of the finer default step, of the pond storage, of the ground above a stage, of the
- * confidence of a point and of the halves to even documents 01 and 02, the interface, this file and
- * README.md as they stood. None had the definitions, nor the library's code, nor any paper that
- * explains them. README.md says how they read what the text leaves open.
+ * confidence of a point, of the halves to even and of the stage for a wanted storage documents 01
+ * and 02, the interface, this file and README.md as they stood. None had the definitions, nor the
+ * library's code, nor any paper that explains them. README.md says how they read what the text
+ * leaves open.
  *
  * Compile with
  *     gcc -std=c99 -Wall -Wextra -pedantic -O3 -ffp-contract=off
@@ -36,6 +37,7 @@
 #define MAX_NODES 8193              /* columns or rows of a raster */
 #define MAX_SIDE 100                /* a node's side, in decimetres */
 #define PER_LITRE 100000            /* micrometres times square decimetres in a litre */
+#define NODES_AT_ONCE 8             /* whose depths are added in one step of a sum */
 #define FINEST_SHIFT 4              /* U is 1 << shift: 16 at the finest level, 512 at most */
 #define WIDEST_SHIFT 9
 
@@ -739,10 +741,14 @@ ref_above ref_any_above(size_t m, size_t n, size_t unit, const int64_t *lattice,
 
 /* ---- Pond storage ---- */
 
-/* "stage less height where positive, else 0": at most 2 * BOUND, as both are in range. */
+/*
+ * "stage less height where positive, else 0": at most 2 * BOUND, as both are in range. Bit 63 is the sign; 1 less, it is a
+ * mask of all bits, or of none where the difference is negative. With no branch, depths can be taken side by side.
+ */
 static int64_t depth_at(int64_t stage, int64_t height)
 {
-    return height < stage ? stage - height : 0;
+    uint64_t depth = (uint64_t)(stage - height);
+    return (int64_t)(depth & ((depth >> 63) - 1));
 }
 
 /*
@@ -778,6 +784,57 @@ ref_storage ref_storage_at(size_t columns, size_t rows, const int64_t *heights, 
         sum += depth_at(stage, heights[i]);
     }
     return (ref_storage){ .litres = litres_of(sum, side) };
+}
+
+/* ---- The stage for a wanted storage ---- */
+
+/*
+ * Of heights that are all in range. The sum is exact, so its order is free, and a step of several nodes lets the
+ * compiler add their depths side by side.
+ */
+static int64_t sum_of_depths(const int64_t *heights, size_t nodes, int64_t stage)
+{
+    int64_t sum = 0;
+    size_t i = 0;
+    for (; nodes - i >= NODES_AT_ONCE; i += NODES_AT_ONCE)
+        for (size_t k = 0; k < NODES_AT_ONCE; k++)
+            sum += depth_at(stage, heights[i + k]);
+    for (; i < nodes; i++)          /* fewer than one step */
+        sum += depth_at(stage, heights[i]);
+    return sum;
+}
+
+/*
+ * "the lowest stage in range that stores at least the wanted litres", where BOUND does. "A higher stage never stores
+ * less", so high always stores enough and every stage below low too little. Each sum halves the stages between
+ * them, at first 2 * BOUND + 1 < 2^33, so there are at most 33 sums. "Wanted 0" is stored by all, the lowest too.
+ */
+static int64_t lowest_stage(const int64_t *heights, size_t nodes, uint64_t wanted, size_t side)
+{
+    int64_t low = -BOUND, high = BOUND;
+    while (low < high) {
+        int64_t middle = low + (high - low) / 2;
+        if (litres_of(sum_of_depths(heights, nodes, middle), side) >= wanted)
+            high = middle;
+        else
+            low = middle + 1;
+    }
+    return high;
+}
+
+/*
+ * A storage at BOUND has the checks of "the same raster and side": 8, 4, 16, then 6 for the heights, "indexed from 1".
+ * Its stage is in range, so 6 never has place 0. Its litres are the most there can be, and say "18 for none, last of all".
+ */
+ref_stage ref_stage_for(size_t columns, size_t rows, const int64_t *heights, size_t heights_len,
+                        uint64_t wanted, size_t side)
+{
+    ref_storage most = ref_storage_at(columns, rows, heights, heights_len, BOUND, side);
+    if (most.number != 0)
+        return (ref_stage){ .number = most.number, .place = most.place };
+    if (most.litres < wanted)
+        return (ref_stage){ .number = 18 };
+    return (ref_stage){ .stage = lowest_stage(heights, columns * rows, wanted, side) };
 }
 
 /* ---- Files: little-endian fields and marks ---- */

@@ -2,8 +2,9 @@
  * A second implementation of the ground lattice of document 01, of the slopes of
  * document 02's first job, of the refusals 13 and 14 of its third, of the base of its
  * fourth, of the finer default raster of its fifth, of the pond storage of its sixth, of
- * the ground above a stage of its seventh, of the confidence of a point of its eighth and of
- * the halves to even of its ninth, in plain C99, written from their text.
+ * the ground above a stage of its seventh, of the confidence of a point of its eighth, of
+ * the halves to even of its ninth and of the stage for a wanted storage of its tenth, in plain
+ * C99, written from their text.
  *
  * Every call checks its arguments itself, refuses as the documents say and then
  * leaves the slices as they say. Any argument may have any value; a
@@ -25,6 +26,7 @@ typedef struct { uint64_t number, place, count; } ref_count;
 typedef struct { uint64_t number, place, m0, n0, h, points; } ref_header;
 typedef struct { uint64_t number, place, litres; } ref_storage;
 typedef struct { uint64_t number, place, above; } ref_above;
+typedef struct { uint64_t number, place; int64_t stage; } ref_stage;
 
 /*
  * near(v/d) for d of at least 1, at any v, an exact half going to the even neighbour since document 02's job 9;
@@ -64,6 +66,12 @@ ref_above ref_any_above(size_t m, size_t n, size_t unit, const int64_t *lattice,
  * side in decimetres. Nothing is written.
  */
 ref_storage ref_storage_at(size_t columns, size_t rows, const int64_t *heights, size_t heights_len, int64_t stage, size_t side);
+
+/*
+ * The stage for a wanted storage, of document 02's job 10, in litres: any wanted is asked for. The raster of heights and the
+ * side are those of a storage. Nothing is written.
+ */
+ref_stage ref_stage_for(size_t columns, size_t rows, const int64_t *heights, size_t heights_len, uint64_t wanted, size_t side);
 
 ref_cells ref_read_lattice(const uint8_t *file, size_t file_len, int64_t *output, size_t output_len);
 
