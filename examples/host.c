@@ -90,6 +90,7 @@ static const struct { const char *words, *place; } refusals[] = {
     { "a difference from the base of the fit out of range", "the point's index" },
     { "a node side outside 1..100 decimetres", "0" },
     { "a confidence of 0", "the point's index" },
+    { "no stage in range stores the wanted litres", "0" },
 };
 
 /* The point file is named, so that the words can be told apart where many hosts run side by side. */

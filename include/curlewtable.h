@@ -34,13 +34,14 @@
  *   15  a difference from the base of the fit out of range                                      the point's index
  *   16  a node side outside 1..100 decimetres                                                   place 0
  *   17  a confidence of 0                                                                       the point's index
+ *   18  no stage in range stores the wanted litres                                              place 0
  * So place 0 of an any_above's 6 is the stage's or the first control value's.
  * A refusal leaves every slice as it was, but for 7, 13 and 14: the scratch prefixes are then zero, as after an acceptance, and
  * lattice and residuals are as they were. The order of the checks is 1, 2, 3, 8, 4, then 5 and 6; points in list order, in a point
  * 5, then 6, then 17, elsewhere the whole lattice (6) before positions (5); a stage (6) before the lattice or the heights; of a
- * storage the side (16) before 6; of a fit whose points are all in order the differences (15), and then its levels one by one, in
- * each all quotients (7), then all residuals (13), then all sums (14), and after the last level the sums with the base (14); readers
- * record by record, 9, 10, 11, then 12, then 4.
+ * storage and of a stage_for the side (16) before 6, and of a stage_for 18 last of all; of a fit whose points are all in order the
+ * differences (15), and then its levels one by one, in each all quotients (7), then all residuals (13), then all sums (14), and after
+ * the last level the sums with the base (14); readers record by record, 9, 10, 11, then 12, then 4.
  */
 #ifndef CURLEWTABLE_H
 #define CURLEWTABLE_H
@@ -112,6 +113,12 @@ typedef struct {
     size_t number, place;
     uint64_t litres;
 } curlew_storage;
+
+/* stage_for: the stage */
+typedef struct {
+    size_t number, place;
+    int64_t stage;
+} curlew_stage;
 
 /* ---- the surface engine */
 
@@ -188,6 +195,16 @@ curlew_above curlew_any_above(size_t m, size_t n, size_t unit, const int64_t *la
  * columns and rows has left are never refused: then only 16 and the stage's 6 are left.
  */
 curlew_storage curlew_storage_at(size_t columns, size_t rows, const int64_t *heights, size_t heights_len, int64_t stage, size_t side);
+
+/*
+ * The stage for a wanted storage: the lowest stage in range, in micrometres, at which a raster of columns * rows heights, row by row,
+ * with nodes of this side, stores at least the wanted litres, as curlew_storage_at counts them. It may store more; a micrometre lower
+ * is out of range or stores less than is wanted. Any number may be wanted, and 0 gives -4,000,000,000 whatever the heights are.
+ * Nothing is written; what lies past columns * rows is neither read nor checked; no columns or no rows store 0 at every stage.
+ * Refuses 8, 4, 16, 6 as a storage does, height i with place i + 1; no stage is given, so 6 never has place 0. Last of all 18,
+ * exactly where even 4,000,000,000 stores less than is wanted.
+ */
+curlew_stage curlew_stage_for(size_t columns, size_t rows, const int64_t *heights, size_t heights_len, uint64_t wanted, size_t side);
 
 /* ---- the two files */
 
