@@ -20,6 +20,7 @@ const shape shapes[FUNCTIONS] = {
     [RASTER] = { "raster", 512, NODES, BIT(LATTICE) | BIT(VALUES), BIT(VALUES) },
     [ANY_ABOVE] = { "any_above", 512, NODES | BIT(STAGE), BIT(LATTICE), 0 },
     [STORAGE_AT] = { "storage_at", 0, BIT(COLUMNS) | BIT(ROWS) | BIT(STAGE) | BIT(NODE_SIDE), BIT(VALUES), 0 },
+    [STAGE_FOR] = { "stage_for", 0, BIT(COLUMNS) | BIT(ROWS) | BIT(WANTED) | BIT(NODE_SIDE), BIT(VALUES), 0 },
     [READ_LATTICE] = { "read_lattice", 0, 0, BIT(BYTES) | BIT(VALUES), BIT(VALUES) },
     [WRITE_LATTICE] = { "write_lattice", 512, CELLS, BIT(LATTICE) | BIT(BYTES), BIT(BYTES) },
     [READ_POINTS] = { "read_points", 0, 0, BIT(BYTES) | POINTS, POINTS },
@@ -34,7 +35,7 @@ const char *const role_names[SLICES] = {
 const char *number_name(function f, unsigned place)
 {
     static const char *const names[NUMBERS] = { "m", "n", "unit", "x", "y", "step", "columns", "rows",
-                                               "stage", "side" };
+                                               "stage", "wanted", "side" };
     return place == H && takes(f, Z) ? "h" : names[place];
 }
 

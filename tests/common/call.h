@@ -16,6 +16,7 @@ typedef enum {
     RASTER,
     ANY_ABOVE,
     STORAGE_AT,
+    STAGE_FOR,
     READ_LATTICE,
     WRITE_LATTICE,
     READ_POINTS,
@@ -24,11 +25,11 @@ typedef enum {
 } function;
 
 /* The places of a call's numbers, in the header's order. Fits have h where lattices have their unit. A stage is there by its bits. */
-enum { M, N, H, UNIT = H, AT_X, AT_Y, STEP, COLUMNS, ROWS, STAGE, NODE_SIDE, NUMBERS };
+enum { M, N, H, UNIT = H, AT_X, AT_Y, STEP, COLUMNS, ROWS, STAGE, WANTED, NODE_SIDE, NUMBERS };
 
 /*
- * The slices, by what they hold. VALUES and BYTES are what the header calls output; VALUES is also the raster that a storage reads,
- * BYTES the readers' file.
+ * The slices, by what they hold. VALUES and BYTES are what the header calls output; VALUES is also the raster that a storage and a
+ * stage for one read, BYTES the readers' file.
  */
 typedef enum { X, Y, Z, Q, LATTICE, RESIDUAL, WHOLE, FLOATS, VALUES, BYTES, SLICES } role;
 
@@ -87,10 +88,13 @@ static inline int writes(function f, role r)
 }
 
 /* The refusals are numbered from 1 to this, and 0 is an acceptance. The largest number stands here alone. */
-enum { MOST_NUMBER = 17 };
+enum { MOST_NUMBER = 18 };
 
 /* Of a fit and of the point writer: a confidence of 0. */
 enum { NO_CONFIDENCE = 17 };
+
+/* Of a stage for a wanted storage: there is none in range. */
+enum { NO_STAGE = 18 };
 
 /* Those of a fit alone: a difference from the base out of range; and in a level a quotient, a residual or a sum. */
 enum { DIFFERENCE_OUT = 15, QUOTIENT_OUT = 7, RESIDUAL_OUT = 13, SUM_OUT = 14 };

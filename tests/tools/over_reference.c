@@ -1,5 +1,5 @@
 /*
- * The eleven functions of curlewtable.h, answered by the second implementation (tests/reference). With this in place of the
+ * The twelve functions of curlewtable.h, answered by the second implementation (tests/reference). With this in place of the
  * archive the examples can be built where the Rattle kit is not, and what they print over the one can be compared with the other.
  */
 #include "curlewtable.h"
@@ -62,6 +62,13 @@ curlew_storage curlew_storage_at(size_t columns, size_t rows, const int64_t *hei
 {
     ref_storage answer = ref_storage_at(columns, rows, heights, heights_len, stage, side);
     curlew_storage same = { answer.number, answer.place, answer.litres };
+    return same;
+}
+
+curlew_stage curlew_stage_for(size_t columns, size_t rows, const int64_t *heights, size_t heights_len, uint64_t wanted, size_t side)
+{
+    ref_stage answer = ref_stage_for(columns, rows, heights, heights_len, wanted, side);
+    curlew_stage same = { answer.number, answer.place, answer.stage };
     return same;
 }
 
