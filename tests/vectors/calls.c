@@ -1,6 +1,6 @@
 /*
- * The vectors that are calls of the library: heights, slopes, refinements, rasters, ground above a stage and storages, run on either
- * implementation. Those with points, fits and point files, are in points.c.
+ * The vectors that are calls of the library: heights, slopes, refinements, rasters, ground above a stage, storages and stages for a
+ * wanted one, run on either implementation. Those with points, fits and point files, are in points.c.
  */
 #include "checks.h"
 
@@ -100,10 +100,10 @@ static int64_t *repeated(list given, size_t length, const char *text)
     return result;
 }
 
-/* columns rows stage side length : heights : answer */
-static int storage_line(const char *text, runner *run)
+/* columns rows, the stage or what is wanted, side length : heights : answer */
+static int heights_line(const char *text, runner *run, function f, unsigned third)
 {
-    static const unsigned place[] = { COLUMNS, ROWS, STAGE, NODE_SIDE };
+    const unsigned place[] = { COLUMNS, ROWS, third, NODE_SIDE };
     numbers line = read_numbers(text);
     const int64_t *head = line.list[0].values;
     call c;
@@ -113,7 +113,7 @@ static int storage_line(const char *text, runner *run)
 
     check_line(&line, text, 3, COUNT(place) + 1);
     memset(&c, 0, sizeof c);
-    c.function = STORAGE_AT;
+    c.function = f;
     for (at = 0; at < COUNT(place); at++)
         c.number[place[at]] = (size_t)head[at];
     heights = repeated(line.list[1], (size_t)head[COUNT(place)], text);
@@ -122,6 +122,18 @@ static int storage_line(const char *text, runner *run)
     free(heights);
     free_numbers(&line);
     return agrees;
+}
+
+/* columns rows stage side length : heights : answer */
+static int storage_line(const char *text, runner *run)
+{
+    return heights_line(text, run, STORAGE_AT, STAGE);
+}
+
+/* columns rows wanted side length : heights : answer */
+static int stage_line(const char *text, runner *run)
+{
+    return heights_line(text, run, STAGE_FOR, WANTED);
 }
 
 size_t run_calls(const char *folder, runner *run)
@@ -134,6 +146,7 @@ size_t run_calls(const char *folder, runner *run)
     differ += run_file(folder, "raster.txt", raster_line, run);
     differ += run_file(folder, "above.txt", above_line, run);
     differ += run_file(folder, "storage.txt", storage_line, run);
+    differ += run_file(folder, "stage.txt", stage_line, run);
     differ += run_file(folder, "fit.txt", fit_line, run);
     differ += run_file(folder, "points.txt", points_line, run);
     return differ;

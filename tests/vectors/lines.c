@@ -3,6 +3,7 @@
  */
 #include "lines.h"
 
+#include <errno.h>
 #include <stdio.h>
 #include <stdlib.h>
 #include <string.h>
@@ -23,8 +24,9 @@ static list read_list(const char *line, const char *at, const char *end)
         at += strspn(at, " ");
         if (at == end)
             return result;
-        result.values[result.count++] = strtoll(at, &after, 10);
-        if (after == at || after > end)
+        errno = 0;
+        result.values[result.count++] = *at == '-' ? strtoll(at, &after, 10) : (int64_t)strtoull(at, &after, 10);
+        if (after == at || after > end || errno != 0)
             bad_line(line);
         at = after;
     }

@@ -11,6 +11,7 @@
 #include <stddef.h>
 #include <stdint.h>
 
+/* Numbers of 64 bits. One above INT64_MAX, as wanted litres may be, is there by its bits. */
 typedef struct {
     int64_t *values;
     size_t count;
@@ -41,8 +42,8 @@ typedef int line_check(const char *line, runner *run);
 size_t run_file(const char *folder, const char *name, line_check *agrees, runner *run);
 
 /*
- * Checks height.txt, slope.txt, refine.txt, raster.txt, above.txt, storage.txt, fit.txt and points.txt on the runner; returns how
- * many lines differ.
+ * Checks height.txt, slope.txt, refine.txt, raster.txt, above.txt, storage.txt, stage.txt, fit.txt and points.txt on the runner;
+ * returns how many lines differ.
  */
 size_t run_calls(const char *folder, runner *run);
 
