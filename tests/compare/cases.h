@@ -46,7 +46,10 @@ void print_above(void);
  */
 test_case storage_case, sampled_case;
 
-/* The storage of the largest raster, by its known litres. */
+/* The stage for a wanted storage, mostly for what the heights store at some stage, give or take a litre; sampled_case asks too. */
+test_case wanted_case;
+
+/* The storage of the largest raster, and the stage for one, by known answers. */
 void largest_storage(void);
 
 /* A raster's call, with no trouble; its parts: a lattice to be read with a unit, and a position of it; and a refinement's. */
@@ -89,9 +92,9 @@ size_t some_point_count(generator *g, size_class size);
 void every_file_damage(int few_values);
 
 /*
- * The examples of documents 01 and 02 by their printed values, slopes, bases, stages, storages, confidences, both kinds of point file,
- * halves and their negatives, and the most distance of demand 3 by known ones, a fit refused for each figure, and each value of some
- * lattices and rasters out of range in turn; returns how many examples there are.
+ * The examples of documents 01 and 02 by their printed values, slopes, bases, stages, storages, stages for a wanted storage,
+ * confidences, both kinds of point file, halves and their negatives, and the most distance of demand 3 by known ones, a fit refused
+ * for each figure, and each value of some lattices and rasters out of range in turn; returns how many examples there are.
  */
 size_t run_examples(void);
 

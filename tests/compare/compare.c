@@ -4,8 +4,9 @@
  *   compare [--vectors DIR] [--small] [--case N] [seconds [seed]]
  *
  * First come the examples of documents 01 and 02, halves and their negatives, lattices and rasters with each value out of range in
- * turn, stage and storage of the largest raster, with --vectors every line of the outside vectors of that folder, stages on a lattice
- * with high values in all its places, and every damage of a small file; then random cases for about so many seconds (30).
+ * turn, ground above a stage, storage and stage for one of the largest raster, with --vectors every line of the outside vectors of
+ * that folder, stages on a lattice with high values in all its places, and every damage of a small file; then random cases for about
+ * so many seconds (30).
  * --small leaves out the larger cases, for slow tools. Prints how many calls were compared, by function and answer. At the
  * first difference it prints the call and its case number N, and exits with status 1; "compare --case N 0 seed" runs that case
  * alone.
@@ -40,8 +41,8 @@ static const struct {
 } kinds[] = {
     { fit_case, 200 }, { scaled_case, 20 }, { range_end_case, 10 }, { leap_case, 20 }, { tie_case, 50 },
     { negated_fit_case, 100 }, { negated_surface_case, 100 }, { height_case, 150 }, { slope_case, 150 }, { refine_case, 100 },
-    { raster_case, 200 }, { above_case, 100 }, { storage_case, 150 }, { sampled_case, 50 }, { lattice_file_case, 150 },
-    { point_file_case, 150 }, { demand3_case, 3 }, { exact_case, 2 }, { half_case, 30 },
+    { raster_case, 200 }, { above_case, 100 }, { storage_case, 150 }, { wanted_case, 150 }, { sampled_case, 50 },
+    { lattice_file_case, 150 }, { point_file_case, 150 }, { demand3_case, 3 }, { exact_case, 2 }, { half_case, 30 },
 };
 
 #define KINDS COUNT(kinds)

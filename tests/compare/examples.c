@@ -1,7 +1,8 @@
 /*
  * The examples of document 01 ("Table of checked examples"), as document 02 leaves them, and a few more with known answers,
- * among them slopes, ground above a stage, storages and a fit refused for each figure, each as a trial whose answer and results are
- * held to those values. Those of confidences are in confidence.c, those of halves and negations in negation.c.
+ * among them slopes, ground above a stage, storages, stages for a wanted one and a fit refused for each figure, each as a trial
+ * whose answer and results are held to those values. Those of confidences are in confidence.c, those of halves and negations in
+ * negation.c.
  */
 #include "cases.h"
 #include "examples.h"
@@ -546,32 +547,41 @@ static void storage_refusals(void)
     expect(&d, 6, 0, 0, 0);
 }
 
+static const size_t row_lengths[] = { 1, 2, 63, 64, 65, 127, 128, 129, 130 };
+static const int64_t level_row[130];
+
 /*
- * Each height out of range in turn, by itself or with the last, in rows about as long as a block of the scan: its place is one more
- * than its index.
+ * Each height of a level row out of range in turn, by itself or with the last, in rows about as long as a block of the scan: its
+ * place is one more than its index. The row as it is has this answer.
  */
-static void storage_offenders(size_t columns, int with_last)
+static void try_offenders(const draft *d, uint64_t answered, int with_last)
 {
-    static const int64_t zeros[130];
-    draft d = row_of_heights(zeros, columns, 1, 100);
-    int64_t *heights = d.call.slice[VALUES].at;
+    const size_t columns = d->call.number[COLUMNS];
+    int64_t *heights = d->call.slice[VALUES].at;
     size_t at;
 
-    expect(&d, 0, 0, columns / 10, 0);
+    expect(d, 0, 0, answered, 0);
     if (with_last)
         heights[columns - 1] = INT64_MAX;
     for (at = columns; at-- > 0;) {
         const int64_t kept = heights[at];
 
         heights[at] = at % 2 == 0 ? LIMIT + 1 : INT64_MIN;
-        expect(&d, 6, at + 1, 0, 0);
+        expect(d, 6, at + 1, 0, 0);
         heights[at] = kept;
     }
 }
 
+/* A tenth of a litre over each node. */
+static void storage_offenders(size_t columns, int with_last)
+{
+    const draft d = row_of_heights(level_row, columns, 1, 100);
+
+    try_offenders(&d, columns / 10, with_last);
+}
+
 static void storage_examples(void)
 {
-    static const size_t columns[] = { 1, 2, 63, 64, 65, 127, 128, 129, 130 };
     size_t at;
 
     storage_example("two half litres", 0, 0, 50000, 1, 1);
@@ -582,9 +592,144 @@ static void storage_examples(void)
     storage_example("the deepest two nodes", -LIMIT, -LIMIT, LIMIT, 100, UINT64_C(1600000000));
     storage_refusals();
     begin("every height out of range in turn");
-    for (at = 0; at < COUNT(columns); at++) {
-        storage_offenders(columns[at], 0);
-        storage_offenders(columns[at], 1);
+    for (at = 0; at < COUNT(row_lengths); at++) {
+        storage_offenders(row_lengths[at], 0);
+        storage_offenders(row_lengths[at], 1);
+    }
+}
+
+/* ---- stages for a wanted storage: the same rows; a node at LIMIT is dry at every stage ---- */
+
+static draft row_to_fill(const int64_t *heights, size_t columns, uint64_t wanted, size_t side)
+{
+    draft d = row_of_heights(heights, columns, 0, side);
+
+    d.call.function = STAGE_FOR;
+    d.call.number[WANTED] = (size_t)wanted;
+    return d;
+}
+
+static void stage_example(const char *name, int64_t first, int64_t second, uint64_t wanted, size_t side, int64_t stage)
+{
+    const int64_t heights[] = { first, second };
+    const draft d = row_to_fill(heights, 2, wanted, side);
+
+    begin(name);
+    expect(&d, 0, 0, (uint64_t)stage, 0);
+}
+
+static void no_stage_example(const char *name, int64_t first, int64_t second, uint64_t wanted, size_t side)
+{
+    const int64_t heights[] = { first, second };
+    const draft d = row_to_fill(heights, 2, wanted, side);
+
+    begin(name);
+    expect(&d, NO_STAGE, 0, 0, 0);
+}
+
+/* A micrometre over a hundred nodes is ten litres, so one stage does for any of the ten. */
+static void at_least_example(void)
+{
+    draft d = row_to_fill(level_row, 100, 1, 100);
+    size_t *wanted = &d.call.number[WANTED];
+
+    begin("a stage that stores at least what is wanted");
+    for (; *wanted <= 10; ++*wanted)
+        expect(&d, 0, 0, 1, 0);
+    expect(&d, 0, 0, 2, 0);
+}
+
+/* Faults put right one by one: 8, 4, 16, then 6 of the second height, then 18, and then accepted. */
+static void stage_refusals(void)
+{
+    const int64_t heights[] = { -LIMIT, LIMIT + 1 };
+    draft d = row_to_fill(heights, 2, UINT64_MAX, 101);
+    size_t *v = d.call.number;
+    int64_t *values = d.call.slice[VALUES].at;
+
+    begin("the refusals of a stage for a storage, in their order");
+    v[ROWS] = MOST_NODES + 1;
+    d.call.slice[VALUES].length = 1;
+    expect(&d, 8, 0, 0, 0);
+    v[ROWS] = 1;
+    expect(&d, 4, 0, 0, 0);
+    d.call.slice[VALUES].length = 2;
+    expect(&d, 16, 0, 0, 0);
+    v[NODE_SIDE] = 0;
+    expect(&d, 16, 0, 0, 0);
+    v[NODE_SIDE] = 100;
+    expect(&d, 6, 2, 0, 0);
+    v[WANTED] = 0;                              /* which every stage stores, but the heights are still asked */
+    expect(&d, 6, 2, 0, 0);
+    values[1] = LIMIT;
+    expect(&d, 0, 0, (uint64_t)-LIMIT, 0);
+    v[WANTED] = 800000001;
+    expect(&d, NO_STAGE, 0, 0, 0);
+    v[WANTED]--;
+    expect(&d, 0, 0, LIMIT, 0);
+}
+
+/* No columns, or no rows, and no heights: nothing is stored at any stage. */
+static void empty_raster(void)
+{
+    draft d = row_to_fill(level_row, 0, 0, 1);
+    size_t *v = d.call.number;
+
+    begin("a stage for a storage of no nodes");
+    expect(&d, 0, 0, (uint64_t)-LIMIT, 0);
+    v[WANTED] = 1;
+    expect(&d, NO_STAGE, 0, 0, 0);
+    v[NODE_SIDE] = 101;
+    expect(&d, 16, 0, 0, 0);
+    v[COLUMNS] = MOST_NODES;
+    v[ROWS] = 0;
+    expect(&d, 16, 0, 0, 0);
+    v[NODE_SIDE] = 100;
+    expect(&d, NO_STAGE, 0, 0, 0);
+    v[WANTED] = 0;
+    expect(&d, 0, 0, (uint64_t)-LIMIT, 0);
+    v[COLUMNS]++;
+    expect(&d, 8, 0, 0, 0);
+}
+
+/* A litre over all nodes together. */
+static void stage_offenders(size_t columns, int with_last)
+{
+    const draft d = row_to_fill(level_row, columns, 1, 100);
+
+    try_offenders(&d, columns < 10 ? 10 / columns : 1, with_last);
+}
+
+static void stage_examples(void)
+{
+    size_t at;
+
+    stage_example("the stage for nothing is the lowest", 7, -7, 0, 1, -LIMIT);
+    stage_example("a stage for a litre on one node", 0, LIMIT, 1, 1, 100000);
+    stage_example("and for two", 0, LIMIT, 2, 1, 200000);
+    stage_example("a litre on nine square decimetres, to the next micrometre", 0, LIMIT, 1, 3, 11112);
+    stage_example("a stage for two half litres", 0, 0, 1, 1, 50000);
+    stage_example("a second node that has the last micrometre", 0, 99998, 1, 1, 99999);
+    stage_example("one that is dry, by a micrometre", 0, 100000, 1, 1, 100000);
+    stage_example("a stage at the second node's height", 1, 100001, 1, 1, 100001);
+    stage_example("a stage below the datum", -300000, -200001, 1, 1, -200000);
+    stage_example("a stage for a litre in the deepest pit", -LIMIT, LIMIT, 1, 100, 10 - LIMIT);
+    stage_example("the highest stage just suffices", 0, LIMIT, 40000, 1, LIMIT);
+    no_stage_example("no stage for a litre more", 0, LIMIT, 40001, 1);
+    stage_example("it does over the deepest two nodes", -LIMIT, -LIMIT, UINT64_C(1600000000), 100, LIMIT);
+    no_stage_example("and not for a litre more", -LIMIT, -LIMIT, UINT64_C(1600000001), 100);
+    stage_example("the stage for nothing over the highest ground", LIMIT, LIMIT, 0, 100, -LIMIT);
+    no_stage_example("no stage for a litre over it", LIMIT, LIMIT, 1, 100);
+    no_stage_example("nor for all that can be asked for", -LIMIT, -LIMIT, UINT64_MAX, 100);
+    /* times 100,000 it is 48,384 more than 2^64 */
+    no_stage_example("nor for litres that are few if 64 bits are cut off", -LIMIT, -LIMIT, UINT64_C(184467440737096), 1);
+    at_least_example();
+    stage_refusals();
+    empty_raster();
+    begin("every height out of range in turn, of a stage for a storage");
+    for (at = 0; at < COUNT(row_lengths); at++) {
+        stage_offenders(row_lengths[at], 0);
+        stage_offenders(row_lengths[at], 1);
     }
 }
 
@@ -654,6 +799,7 @@ size_t run_examples(void)
     offender_examples();
     above_examples();
     storage_examples();
+    stage_examples();
     confidence_examples();
     negation_examples();
     distance_examples();

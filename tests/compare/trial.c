@@ -9,9 +9,9 @@
 
 #include "trial.h"
 
+#include "inputs.h"
+
 #include "../../include/curlewtable.h"
-#include "../common/basics.h"
-#include "../common/random.h"
 #include "../reference/reference.h"
 
 #include <inttypes.h>
@@ -213,6 +213,19 @@ static int untouched(const unsigned char *guard, size_t bytes)
     return memcmp(guard, pattern, bytes) == 0;
 }
 
+/* ---- a call on one side ---- */
+
+static answer run_on(int side, const call *own)
+{
+    static runner *const run[SIDES] = { run_library, run_reference };
+    answer result;
+
+    current_side = side_names[side];
+    result = run[side](own);
+    current_side = NULL;
+    return result;
+}
+
 /* ---- what the header says, whatever the reference does ---- */
 
 /* How many elements, from the first, a fit with this answer may change: after 7, 13 and 14 only scratch, after others nothing. */
@@ -299,6 +312,44 @@ static int confidences_hold(const call *c, answer a)
     return (number != 0 && number != DIFFERENCE_OUT && !in_levels(number)) || all_trusted(c, c->slice[Q].length);
 }
 
+/* The library's own storage of a stage_for's raster and side at a stage. */
+static answer stored_at(const call *c, int64_t stage)
+{
+    call storage = *c;
+
+    storage.function = STORAGE_AT;
+    storage.number[STAGE] = (size_t)stage;
+    return run_on(LIBRARY, &storage);
+}
+
+/* Whether a storage is accepted with less than is wanted; and whether it is with no less. */
+static int too_little(const call *c, answer stored)
+{
+    return stored.field[NUMBER] == 0 && stored.field[FIRST] < c->number[WANTED];
+}
+
+static int enough(const call *c, answer stored)
+{
+    return stored.field[NUMBER] == 0 && stored.field[FIRST] >= c->number[WANTED];
+}
+
+/*
+ * A stage is given exactly where the highest stores enough, and stores enough where a micrometre lower does not. Where the highest
+ * does not, it is 18; where it is refused, so is the call, with the same place.
+ */
+static int stage_holds(const call *c, answer a)
+{
+    const answer most = stored_at(c, LIMIT);
+    const int64_t stage = (int64_t)a.field[FIRST];
+
+    if (enough(c, most))
+        return a.field[NUMBER] == 0 && enough(c, stored_at(c, stage))
+               && (stage == -LIMIT || too_little(c, stored_at(c, stage - 1)));
+    if (too_little(c, most))
+        return a.field[NUMBER] == NO_STAGE && a.field[PLACE] == 0;
+    return a.field[NUMBER] == most.field[NUMBER] && a.field[PLACE] == most.field[PLACE];
+}
+
 /* ---- the comparison ---- */
 
 /* The first byte at which two differ. */
@@ -370,6 +421,8 @@ static void compare_answers(const call *c, answer library, answer reference)
     if ((c->function == FIT || c->function == WRITE_POINTS) ? !confidences_hold(c, library)
                                                             : library.field[NUMBER] == NO_CONFIDENCE)
         trial_failed(c, "a confidence of 0 that is passed over, or named where none is");
+    if (c->function == STAGE_FOR ? !stage_holds(c, library) : library.field[NUMBER] == NO_STAGE)
+        trial_failed(c, "not the lowest stage whose storage is enough, or a refusal that no storage bears out");
 }
 
 /* The call with slices of the side's own, laid out like the other side's. */
@@ -387,17 +440,6 @@ static call lent_to(int side, const call *c, const int place[SLICES], image imag
             own.slice[r].at = NULL;
     }
     return own;
-}
-
-static answer run_on(int side, const call *own)
-{
-    static runner *const run[SIDES] = { run_library, run_reference };
-    answer result;
-
-    current_side = side_names[side];
-    result = run[side](own);
-    current_side = NULL;
-    return result;
 }
 
 answer trial(const call *c)

@@ -1,7 +1,8 @@
 /*
  * Runs one call on the library and on the reference and compares everything: the answers, every slice whole, the guard
  * zones around it, and what the header itself says of refusals, of scratch and of places that never change. An accepted
- * slope is also held to its bound, by the reference's exact sums; refusal 17 to the first confidence of 0.
+ * slope is also held to its bound, by the reference's exact sums; refusal 17 to the first confidence of 0; a stage for a
+ * wanted storage, and each refusal of one, to the library's own storages.
  * At the first difference it prints the call and ends the process with status 1.
  */
 #ifndef TRIAL_H
