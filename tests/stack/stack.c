@@ -72,6 +72,12 @@ static size_t storage_at(void)
     return curlew_storage_at(SIDE, SIDE, raster, sizeof raster / sizeof *raster, 4000000000, 100).number;
 }
 
+/* About a kilometre over every node: the search goes on for some passes. */
+static size_t stage_for(void)
+{
+    return curlew_stage_for(SIDE, SIDE, raster, sizeof raster / sizeof *raster, 100000000000000, 100).number;
+}
+
 static size_t write_lattice(void)
 {
     return curlew_write_lattice(CELLS, CELLS, lattice, sizeof lattice / sizeof *lattice, file, sizeof file).number;
@@ -96,8 +102,8 @@ static size_t read_points(void)
 static const struct { const char *name; size_t (*run)(void); } calls[] = {
     { "curlew_fit", fit }, { "curlew_height_at", height_at }, { "curlew_slope_at", slope_at },
     { "curlew_raster", rasters }, { "curlew_any_above", any_above }, { "curlew_storage_at", storage_at },
-    { "curlew_write_lattice", write_lattice }, { "curlew_read_lattice", read_lattice }, { "curlew_refine", refine },
-    { "curlew_write_points", write_points }, { "curlew_read_points", read_points },
+    { "curlew_stage_for", stage_for }, { "curlew_write_lattice", write_lattice }, { "curlew_read_lattice", read_lattice },
+    { "curlew_refine", refine }, { "curlew_write_points", write_points }, { "curlew_read_points", read_points },
 };
 
 /* A call in the middle of a thread: its stack's use is measured from this frame on. */

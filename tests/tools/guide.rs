@@ -1,5 +1,5 @@
 
-// Follows the declarations of docs/HOST.md: calls each of the eleven functions. m0, n0, h and p all differ, and so do m and n, so that
+// Follows the declarations of docs/HOST.md: calls each of the twelve functions. m0, n0, h and p all differ, and so do m and n, so that
 // two fields or two arguments that changed places are seen.
 fn main() {
     let (m0, n0, h, x, y, z, q) = (4, 3, 1, [0u16, 100], [0u16, 50], [9i64, -7], [1u8, 255]);
@@ -48,6 +48,16 @@ fn main() {
     assert_eq!(storage_at(0, 101), Storage { number: 16, place: 0, litres: 0 });
     assert_eq!(unsafe { curlew_storage_at(2, 1, [0i64, 4_000_000_001].as_ptr(), 2, 0, 1) }, Storage { number: 6, place: 2, litres: 0 });
 
+    let stage_for = |wanted, side| unsafe { curlew_stage_for(3, 2, raster.as_ptr(), 6, wanted, side) };
+    // 6 litres more on 6 squares of a decimetre take a decimetre more, to the micrometre, from any stage above the highest node on
+    let full = stage_for(60_000, 1);
+    assert_eq!((full.number, full.place, stage_for(60_006, 1).stage), (0, 0, full.stage + 100_000));
+    assert!(storage_at(full.stage, 1).litres == 60_000 && storage_at(full.stage - 1, 1).litres == 59_999);
+    assert_eq!(stage_for(0, 1), Stage { number: 0, place: 0, stage: -4_000_000_000 });
+    assert_eq!(stage_for(u64::MAX, 100), Stage { number: 18, place: 0, stage: 0 });
+    assert_eq!(stage_for(1, 0), Stage { number: 16, place: 0, stage: 0 });
+    assert_eq!(unsafe { curlew_stage_for(2, 1, [0i64, 4_000_000_001].as_ptr(), 2, 0, 1) }, Stage { number: 6, place: 2, stage: 0 });
+
     let (mut file, mut read) = (vec![0u8; 838], vec![0i64; 99]);
     let bytes = unsafe { curlew_write_lattice(8, 6, lattice.as_ptr(), 99, file.as_mut_ptr(), 838) };
     assert_eq!(bytes, Count { number: 0, place: 0, count: 838 });
@@ -65,5 +75,5 @@ fn main() {
     };
     assert_eq!(header, Header { number: 0, place: 0, m0, n0, h, points: 2 });
     assert_eq!((x2, y2, z2, q2), (x, y, z, q));
-    println!("eleven functions called");
+    println!("twelve functions called");
 }
