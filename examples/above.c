@@ -30,7 +30,7 @@ static int try_stage(const curlew_cells *cells, const int64_t *lattice, int64_t 
 
     if (answer.number != 0)
         return refused("curlew_any_above", answer.number, answer.place);
-    print_metres(stage);
+    print_metres(12, stage);
     printf(" %14s\n", answer.above ? "yes" : "no");
     return DONE;
 }

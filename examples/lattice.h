@@ -63,14 +63,14 @@ static int read_lattice(const char *name, curlew_cells *cells, int64_t **lattice
     return result;
 }
 
-/* Metres from whole micrometres; the sign apart, since -0.5 m has no whole metre to carry it. */
-static void print_metres(int64_t height)
+/* Metres from whole micrometres, in so many columns or more; the sign apart, since -0.5 m has no whole metre to carry it. */
+static void print_metres(int width, int64_t height)
 {
     const int64_t size = height < 0 ? -height : height;
     char text[32];
 
     snprintf(text, sizeof text, "%s%" PRId64 ".%06" PRId64, height < 0 ? "-" : "", size / MICROMETRES, size % MICROMETRES);
-    printf("%12s", text);
+    printf("%*s", width, text);
 }
 
 /* Whether all that was printed could be written. */

@@ -1,25 +1,29 @@
 /*
  * An example above the surface engine: reads a lattice file and prints how much the ground stores at some stages, from its lowest
- * node to its highest.
+ * node to its highest, and at which stage it stores a wanted volume.
  *
- *     pond LATTICE SIDE SIZE [SIZE_Y]
+ *     pond LATTICE SIDE SIZE [SIZE_Y] [--wanted LITRES...]
  *
  * LATTICE is a lattice file that a fit left (target/host writes one). SIDE is the side of a node's square in decimetres, 1 to 100;
  * SIZE and SIZE_Y are the metres of a position along x and along y, as tools/points was given them (SIZE for both where SIZE_Y is
  * not given). A side must be a whole number of positions along both axes. The squares lie edge to edge from (0, 0) on, and a node
  * in the middle of each, or half a position before it where a side has an odd number of them; what is left at the far edges, less
- * than a square wide, is not counted.
+ * than a square wide, is not counted. For each of the LITRES comes the lowest stage that stores at least so much, and what it stores
+ * there; or, where the basin cannot hold them at any stage in range, what it holds at the highest, 4,000 metres above the datum.
  *
  * Every node below a stage counts, whether or not the water could reach it or would run off: it is the basin's own lattice that
  * this is for.
  *
- * How it ends is in lattice.h.
+ * How it ends is in lattice.h. More than the basin can hold is a refusal too, by 18, but the other volumes are answered.
  */
 #include "lattice.h"
 
 #define STAGES 10                   /* equal parts from the lowest node to the highest */
 #define DECIMETRES 10               /* in a metre */
 #define EXACT 1e-9                  /* how near a number of positions is to a whole one, as a part of it */
+#define HIGHEST INT64_C(4000000000) /* the highest stage in range, in micrometres */
+#define NO_STAGE 18                 /* the refusal where even that stores less than is wanted */
+#define LEAST_WORDS 4               /* with LATTICE, SIDE and SIZE */
 
 /* The ground, and the nodes that stand for its squares. */
 typedef struct {
@@ -44,6 +48,7 @@ static size_t positions(size_t side, const char *word)
     return end != word && *end == '\0' && off <= EXACT * exact && -off <= EXACT * exact ? whole : 0;
 }
 
+/* The last of so many words is SIZE_Y, or SIZE where that is not given. */
 static int lay_out(basin *b, int words, char **word)
 {
     char *end;
@@ -84,6 +89,15 @@ static int sample(basin *b)
 
 /* ---- the table */
 
+/* What the basin stores at a stage. */
+static int stored_at(const basin *b, int64_t stage, uint64_t *litres)
+{
+    const curlew_storage stored = curlew_storage_at(b->columns, b->rows, b->heights, b->columns * b->rows, stage, b->side);
+
+    *litres = stored.litres;
+    return stored.number == 0 ? DONE : refused("curlew_storage_at", stored.number, stored.place);
+}
+
 typedef struct {
     int64_t low, high;
 } span;
@@ -103,40 +117,99 @@ static span span_of(const int64_t *heights, size_t nodes)
 
 static int print_table(const basin *b)
 {
-    const size_t nodes = b->columns * b->rows;
-    const span s = span_of(b->heights, nodes);
+    const span s = span_of(b->heights, b->columns * b->rows);
+    uint64_t litres;
     int64_t part;
 
     printf("%zu by %zu squares of %zu.%zu metres\n%12s %20s\n", b->columns, b->rows, b->side / DECIMETRES, b->side % DECIMETRES,
            "stage, m", "litres");
     for (part = 0; part <= STAGES; part++) {
         const int64_t stage = s.low + (s.high - s.low) * part / STAGES;
-        const curlew_storage stored = curlew_storage_at(b->columns, b->rows, b->heights, nodes, stage, b->side);
-        if (stored.number != 0)
-            return refused("curlew_storage_at", stored.number, stored.place);
-        print_metres(stage);
-        printf(" %20" PRIu64 "\n", stored.litres);
+        if (stored_at(b, stage, &litres) != DONE)
+            return REFUSED;
+        print_metres(12, stage);
+        printf(" %20" PRIu64 "\n", litres);
     }
-    return written();
+    return DONE;
+}
+
+/* ---- the wanted volumes */
+
+/* Decimal digits only: strtoull would take a sign, blanks and an empty word. */
+static int read_litres(const char *word, uint64_t *litres)
+{
+    char *end;
+
+    errno = 0;
+    *litres = strtoull(word, &end, 10);
+    if (word[0] < '0' || word[0] > '9' || *end != '\0' || errno != 0)
+        return failed("a wanted volume is a whole number of litres", word);
+    return DONE;
+}
+
+/* The stage seldom stores exactly what is wanted: a micrometre over every square may be many litres. */
+static int print_stage(const basin *b, uint64_t wanted)
+{
+    const curlew_stage found = curlew_stage_for(b->columns, b->rows, b->heights, b->columns * b->rows, wanted, b->side);
+    const int none = found.number == NO_STAGE;
+    const int64_t stage = none ? HIGHEST : found.stage;
+    uint64_t litres;
+
+    if (found.number != 0 && !none)
+        return refused("curlew_stage_for", found.number, found.place);
+    if (stored_at(b, stage, &litres) != DONE)
+        return REFUSED;
+    printf("for %" PRIu64 " litres: %s", wanted, none ? "the basin cannot hold them; at the highest stage, " : "stage ");
+    print_metres(0, stage);
+    printf(" m, %s %" PRIu64 " litres\n", none ? "it holds" : "which stores", litres);
+    return none ? refused("curlew_stage_for", found.number, found.place) : DONE;
+}
+
+/* A volume that is too much doesn't keep the next one from its answer. */
+static int print_stages(const basin *b, int volumes, char **volume)
+{
+    int result = DONE, at;
+    uint64_t wanted;
+
+    for (at = 0; at < volumes; at++) {
+        if (read_litres(volume[at], &wanted) != DONE)
+            return FAILED;
+        if (print_stage(b, wanted) != DONE)
+            result = REFUSED;
+    }
+    return result;
+}
+
+/* The words up to --wanted, or all where it is not there. */
+static int words_before(int words, char **word)
+{
+    int at = LEAST_WORDS;
+
+    while (at < words && strcmp(word[at], "--wanted") != 0)
+        at++;
+    return words < at ? words : at;
 }
 
 int main(int words, char **word)
 {
+    const int before = words_before(words, word);
     basin b = { 0 };
     int result;
 
-    if (words != 4 && words != 5) {
-        fprintf(stderr, "usage: pond LATTICE SIDE SIZE [SIZE_Y]\n");
+    if (before < LEAST_WORDS || before > LEAST_WORDS + 1 || words == before + 1) {
+        fprintf(stderr, "usage: pond LATTICE SIDE SIZE [SIZE_Y] [--wanted LITRES...]\n");
         return FAILED;
     }
     result = read_lattice(word[1], &b.cells, &b.lattice);
     if (result == DONE)
-        result = lay_out(&b, words, word);
+        result = lay_out(&b, before, word);
     if (result == DONE)
         result = sample(&b);
     if (result == DONE)
         result = print_table(&b);
+    if (result == DONE)
+        result = print_stages(&b, words - before - 1, word + before + 1);
     free(b.lattice);
     free(b.heights);
-    return result;
+    return result == DONE ? written() : result;
 }
