@@ -5,7 +5,8 @@
  *
  * Both run in this process on the same slices, in turns and in four places each, for about so many seconds (1) a line, and the best
  * processor time of each counts. The slices are warm, and not cleared between runs. Inputs are random points and lattices on a
- * smooth ground; stages are tried on level and on rough ground, where C makes the raster and scans it.
+ * smooth ground; stages are tried on level and on rough ground, where C makes the raster and scans it; for a stage that stores what
+ * is wanted C searches as the library does (stage.c).
  */
 #include "timed.h"
 #include "../include/curlewtable.h"
@@ -246,6 +247,28 @@ static job *storage_job(size_t across)
     return j;
 }
 
+static int64_t highest_of(const int64_t *heights, size_t nodes)
+{
+    int64_t highest = heights[0];
+    size_t at;
+
+    for (at = 1; at < nodes; at++)
+        highest = heights[at] > highest ? heights[at] : highest;
+    return highest;
+}
+
+/* The stage for half of what the same raster stores where its highest node is at the stage. */
+static job *stage_job(size_t across)
+{
+    job *j = storage_job(across);
+    size_t *v = j->call.number;
+
+    v[STAGE] = (size_t)highest_of(j->call.slice[VALUES].at, across * across);
+    v[WANTED] = (size_t)run_reference(&j->call).field[FIRST] / 2;
+    j->call.function = STAGE_FOR;
+    return j;
+}
+
 static job *refine_job(size_t cells)
 {
     job *j = new_job(REFINE, cells, cells);
@@ -413,18 +436,13 @@ static job *peaks_job(void)
 static job *rough_job(void)
 {
     job *j = level_job();
-    int64_t *values = j->call.slice[LATTICE].at, stage;
+    int64_t *values = j->call.slice[LATTICE].at;
     const size_t across = cells_a_side + 3;
-    const int64_t *heights;
     size_t at;
 
     for (at = 0; at < j->call.slice[LATTICE].length; at++)
         values[at] += (at / across + at % across) % 2 == 0 ? METRE : -METRE;
-    heights = heights_of(j);
-    stage = heights[0];
-    for (at = 0; at < nodes_a_side * nodes_a_side; at++)
-        stage = heights[at] > stage ? heights[at] : stage;
-    j->call.number[STAGE] = (size_t)stage;
+    j->call.number[STAGE] = (size_t)highest_of(heights_of(j), nodes_a_side * nodes_a_side);
     return none_above(j, 1000, 1000);
 }
 
@@ -529,6 +547,8 @@ static void calls_table(void)
     line("raster, step 16, where a sixth of the roundings are halves", raster_job(512, 16));
     line("storage, 2,049 x 2,049 nodes", storage_job(2049));
     line("storage, 65 x 65 nodes", storage_job(65));
+    line("stage for a storage, 2,049 x 2,049 nodes", stage_job(2049));
+    line("stage for a storage, 65 x 65 nodes", stage_job(65));
     line("refine, 256 x 256 to 512 x 512", refine_job(256));
     line("write_lattice, 512 x 512 (2,123,870 bytes)", write_lattice_job(512));
     line("read_lattice, 512 x 512", reading(write_lattice_job(512)));

@@ -1,5 +1,6 @@
 /* One run of a job by the library or by the C beside it. */
 #include "timed.h"
+#include "stage.h"
 #include "../include/curlewtable.h"
 #include "../tests/reference/reference.h"
 
@@ -48,13 +49,23 @@ static uint64_t raster_then_scan(const job *j, runner *run)
     return 0;
 }
 
+/* The reference's search takes more passes than the library's, so C has the same one here. */
+static uint64_t stage_by_same_search(const job *j, runner *run)
+{
+    const size_t *v = j->call.number;
+    const slice of = j->call.slice[VALUES];
+
+    (void)run;
+    return (uint64_t)same_search(v[COLUMNS], v[ROWS], of.at, of.length, v[WANTED], v[NODE_SIDE]).stage;
+}
+
 typedef uint64_t work(const job *j, runner *run);
 
 uint64_t run_once(const job *j, int side)
 {
     static work *const of_function[FUNCTIONS][SIDES] = {
         [HEIGHT_AT] = { heights_by_library, heights_by_c }, [SLOPE_AT] = { slopes_by_library, slopes_by_c },
-        [ANY_ABOVE] = { NULL, raster_then_scan },
+        [ANY_ABOVE] = { NULL, raster_then_scan }, [STAGE_FOR] = { NULL, stage_by_same_search },
     };
     static runner *const run[SIDES] = { run_library, run_reference };
     work *of_job = of_function[j->call.function][side];
