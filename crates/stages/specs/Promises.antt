@@ -54,10 +54,11 @@ module _ (columns rows : ℕ) (heights : List ℤ) (wanted s : ℕ) (r : StageTo
   unfolding stageForAnswer stageForCheck
   none-told ponded in-range less =
       rules
-      ∙ some-answer _
+      ∙ sym
+      (some-answer (stageFor columns rows heights wanted s)
       (then-none (pondCheck columns rows heights s) _ ponded
       ∙ then-none (heightsCheck (columns * rows) heights) _ in-range
-      ∙ law.reach-less columns rows heights wanted s less)
+      ∙ law.reach-less columns rows heights wanted s less))
 
   -- of the heights of an accepted raster only the side or the wanted litres are refused
   pub side-or-none : Sampled columns rows heights → (x : Refusal) → told r ≡ refused x → (x ≡ side) ⊎ (x ≡ noStage)

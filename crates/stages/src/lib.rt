@@ -129,7 +129,13 @@ fn number_for(heights: &[i64], n: usize, wanted: u64, side: usize) -> u64
 }
 
 // What is accepted is the lowest stage that stores at least the wanted litres.
-pub fn stage_for(columns: usize, rows: usize, heights: &[i64], wanted: u64, side: usize) -> StageTold
+pub fn stage_for(
+    columns: usize,
+    rows: usize,
+    heights: &[i64],
+    wanted: u64,
+    side: usize,
+) -> StageTold
     ensures { λ r. ⌜ told r ≡ stageForAnswer columns rows (now (heights .entry)) wanted side ⌝ }
     ensures { λ r. ⌜ ((z : ℤ) → told r ≡ accepted z → LowestStage columns rows (now (heights .entry)) wanted side z) ⌝ }
 {

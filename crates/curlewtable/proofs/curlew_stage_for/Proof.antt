@@ -13,11 +13,10 @@ stage-requires : tie.Need-stage-requires
 stage-requires c κs = search needs
 
 returns : tie.Need-returns
-returns c =
-    (
-      c .stage .ensures ∙ ap stageFields (c .before .stage-for .ensures .0),
-      λ n. c .before .stage-for .ensures .1 _ (stage-accepted _ (c .stage .ensures) n),
-    )
+returns c = (
+  c .stage .ensures ∙ ap stageFields (c .before .stage-for .ensures .0),
+  λ n. c .before .stage-for .ensures .1 _ (stage-accepted _ (c .stage .ensures) n),
+)
 
 pub curlew-stage-for-spec : {M : Type 1} → statement M
 curlew-stage-for-spec = tie.close (tie.spec stage-for-requires stage-requires returns)

@@ -67,8 +67,7 @@ loop-again : tie.Need-loop-again Inv-loop μ-loop
 loop-again c =
     let t = turn c in
     let e = c .lower .ensures in
-    let next = read tt (itself (c .lower .result) limit (e .0)) in
-    (
+    let next = read tt (itself (c .lower .result) limit (e .0)) in (
       omega (arith, t .loop-test .taken),
       rw (next .is) (grown (heights t) (i t) _ (c .lower .result) (t .before .loop .inv .1) (e .0) (e .2) (subst (λ z. c .lower .result ≤ℤ z) (height-held t .is) (e .1))),
     )
@@ -91,8 +90,7 @@ module _ (c : tie.After-loop Inv-loop μ-loop) where
 returns : tie.Need-returns Inv-loop μ-loop
 returns c =
     let l = c .before .loop in
-    let last : l .i ≡ c .before .before .args .n = omega arith in
-    (
+    let last : l .i ≡ c .before .before .args .n = omega arith in (
       rw (number-held c .is) (number-most (lowest c) (under-all c .in-range)),
       λ i k. subst (λ z. z ≤ℤ getD (c .before .before .args .heights .now) i (pos 0)) (sym (stage-is c)) (under-all c .under i (omega arith)),
     )
@@ -118,11 +116,10 @@ add-result : tie.Need-add-result Inv-loop μ-loop
 add-result c = fits tt (plus (itself (lowest c) limit (under-all c .in-range)) (literal (pos 4_000_000_000)))
 
 cast-result : tie.Need-cast-result Inv-loop μ-loop
-cast-result c =
-    (
-      rw (number-held c .is) (yes-nonNeg (number-from-zero (lowest c) (under-all c .in-range))),
-      rw (number-held c .is) (omega (arith, number-most (lowest c) (under-all c .in-range))),
-    )
+cast-result c = (
+  rw (number-held c .is) (yes-nonNeg (number-from-zero (lowest c) (under-all c .in-range))),
+  rw (number-held c .is) (omega (arith, number-most (lowest c) (under-all c .in-range))),
+)
 
 pub lowest-number-spec : {M : Type 1} → statement M
 lowest-number-spec =

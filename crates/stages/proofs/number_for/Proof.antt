@@ -109,8 +109,7 @@ needed-sum-requires c κs =
 search-requires : tie.Need-search-requires
 search-requires c κs =
     let e = c .before in
-    let p = start e .pre in
-    (
+    let p = start e .pre in (
       p .0,
       p .1,
       p .2,

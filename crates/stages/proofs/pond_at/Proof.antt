@@ -109,8 +109,7 @@ loop-holds c = (refl, refl, omega arith)
 loop-again : tie.Need-loop-again Inv-loop μ-loop
 unfolding depths wets
 loop-again c =
-    let t = turn (summed c) in
-    (
+    let t = turn (summed c) in (
       ap₂ _+_ (t .before .loop .inv .0) (depth-is (summed c)) ∙ ap (λ n. depths n (heights t) (stage t)) (sym (add-one (i t))),
       ap₂ _+_ (t .before .loop .inv .1) (wet-is c) ∙ ap (λ n. wets n (heights t) (stage t)) (sym (add-one (i t))),
       omega (arith, t .loop-test .taken),
@@ -120,8 +119,7 @@ returns : tie.Need-returns Inv-loop μ-loop
 returns c =
     let l = c .before .loop in
     let s = c .before .before in
-    let last : l .i ≡ s .args .n = omega arith in
-    (
+    let last : l .i ≡ s .args .n = omega arith in (
       l .inv .0 ∙ ap₂ (λ n z. depths n (s .args .heights .now) z) last (stage-held s .is),
       l .inv .1 ∙ ap₂ (λ n z. wets n (s .args .heights .now) z) last (stage-held s .is),
     )

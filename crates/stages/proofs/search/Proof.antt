@@ -58,8 +58,7 @@ module _ (c : tie.After-ceiling Inv-loop μ-loop) where
 
 loop-holds : tie.Need-loop-holds Inv-loop μ-loop
 loop-holds c =
-    let f = first c in
-    (
+    let f = first c in (
       subst
           (λ v. Bracket (f .args .heights .now) (f .args .n) (f .args .needed) (lowest c + v) 8_000_000_001 (f .args .n))
           (sym (first-is c))
@@ -150,8 +149,7 @@ module _ (c : tie.After-ceiling2 Inv-loop μ-loop) where
 
 loop-again : tie.Need-loop-again Inv-loop μ-loop
 loop-again c =
-    let t = low-turn c in
-    (
+    let t = low-turn c in (
       subst
           (λ v. Bracket (heights t) (n t) (needed t) (k t + v) (high t) (most t))
           (sym (c .ceiling2 .ensures))
@@ -192,8 +190,7 @@ returns-2 c = shut (c .before .loop .inv .0) (omega arith)
 loop-again-2 : tie.Need-loop-again-2 Inv-loop μ-loop
 loop-again-2 c =
     let e = c .before in
-    let t = high-turn e in
-    (
+    let t = high-turn e in (
       lowered (bracket t) (k t) _ (sum-is (full e)) _ (wet-is (full e)) (enough e) (needed-some e) (dry t) (inside t .1),
       omega (arith, lower-half _ (t .loop-test .taken) (t .before .loop .inv .1)),
       nodes-wet e,
