@@ -1,2 +1,3 @@
--- What the proofs share.
+-- What the proofs of several functions share.
 pub mod Bracket
+pub mod Back

@@ -29,7 +29,7 @@ struct Pond {
     wet: u64,
 }
 
-// The pond of the first n heights, which have passed their checks. A depth is below 2^63, so that 0 less it has a top bit of 1 exactly where it is not 0.
+// The pond of the first n heights, which have passed their checks. Where a node is wet the mask is 0 less 1.
 fn pond_at(heights: &[i64], n: usize, stage: i64) -> Pond
     requires { ⌜ (n ≤ length (now heights)) × (n ≤ 8_193 * 8_193) × AllInRange n (now heights) × (natAbs stage ≤ limit) ⌝ }
     ensures { λ r. ⌜ r .sum ≡ depths n (now (heights .entry)) stage ⌝ }
@@ -39,9 +39,8 @@ fn pond_at(heights: &[i64], n: usize, stage: i64) -> Pond
     let mut wet = 0u64;
     let mut i = 0;
     while i < n {
-        let depth = storage::depth(stage, heights[i]);
-        sum += depth;
-        wet += std::num::wrapping_sub_u64(0, depth) >> 63;
+        sum += storage::depth(stage, heights[i]);
+        wet = std::num::wrapping_sub_u64(wet, storage::wet_mask(stage, heights[i]));
         i += 1;
     }
     Pond { sum, wet }
@@ -85,12 +84,12 @@ fn needed_sum(wanted: u64, side: usize) -> u64
     wanted / square * 100_000 + ceiling(wanted % square * 100_000, square)
 }
 
-// The number of the lowest stage whose sum of depths is at least the needed one, 8,000,000,001 where none is, in at most 33 sums over the raster. Stages
-// below `low` sum up to less, and `high` doesn't. One between them is tried, and tells more than its own side: a micrometre more or less changes a sum by
-// the nodes that are wet, of which there are `most` at most below `high`.
-fn search(heights: &[i64], n: usize, needed: u64) -> u64
+// The lowest stage whose sum of depths is at least the needed one, 4,000,000,001 where none is, in at most 33 sums over the raster. Stages below `low` sum up
+// to less, and `high` doesn't. One between them is tried, and tells more than its own side: a micrometre more or less changes a sum by the nodes that are
+// wet, of which there are `most` at most below `high`.
+fn search(heights: &[i64], n: usize, needed: u64) -> i64
     requires { ⌜ (n ≤ length (now heights)) × (n ≤ 8_193 * 8_193) × AllInRange n (now heights) × (0 < n) × (0 < needed) × (needed ≤ 537_001_992_000_000_000) ⌝ }
-    ensures { λ r. ⌜ r ≡ lowestOf 8_000_000_001 (λ k. leb needed (depths n (now (heights .entry)) (stageAt k))) ⌝ }
+    ensures { λ r. ⌜ r ≡ stageAt (lowestOf 8_000_000_001 (λ k. leb needed (depths n (now (heights .entry)) (stageAt k)))) ⌝ }
 {
     let mut left = 33u64;
     let mut most = n as u64;
@@ -99,31 +98,32 @@ fn search(heights: &[i64], n: usize, needed: u64) -> u64
     while low < high {
         left -= 1;
         let k = (low + high) / 2;
-        let tried = pond_at(heights, n, k as i64 - 4_000_000_000);
+        let stage = k as i64 - 4_000_000_000;
+        let tried = pond_at(heights, n, stage);
         if tried.sum < needed {
             low = k + ceiling(needed - tried.sum, most);
         } else {
             let spare = tried.sum - needed;
             if spare < tried.wet {
-                return k;
+                return stage;
             }
             most = tried.wet;
             high = k - spare / most;
         }
     }
-    high
+    high as i64 - 4_000_000_000
 }
 
-// The number of the lowest stage that stores the wanted litres, 8,000,000,001 where none does.
-fn number_for(heights: &[i64], n: usize, wanted: u64, side: usize) -> u64
+// The lowest stage that stores the wanted litres, 4,000,000,001 where none does.
+fn lowest_stage(heights: &[i64], n: usize, wanted: u64, side: usize) -> i64
     requires { ⌜ (n ≤ length (now heights)) × (n ≤ 8_193 * 8_193) × AllInRange n (now heights) × (0 < side) × (side ≤ 100) ⌝ }
-    ensures { λ r. ⌜ r ≡ lowestOf 8_000_000_001 (λ k. leb wanted (litresOf (depths n (now (heights .entry)) (stageAt k)) side)) ⌝ }
+    ensures { λ r. ⌜ r ≡ stageAt (lowestOf 8_000_000_001 (λ k. leb wanted (litresOf (depths n (now (heights .entry)) (stageAt k)) side))) ⌝ }
 {
     if wanted == 0 {
-        return 0;
+        return -4_000_000_000;
     }
     if storage::litres(n as u64 * 8_000_000_000, side) < wanted {
-        return 8_000_000_001;
+        return 4_000_000_001;
     }
     search(heights, n, needed_sum(wanted, side))
 }
@@ -145,9 +145,9 @@ pub fn stage_for(
     if let Found::At(k) = range::first_out(heights, columns * rows) {
         return StageTold::Refused(Refusal::Range(k + 1));
     }
-    let number = number_for(heights, columns * rows, wanted, side);
-    if number == 8_000_000_001 {
+    let stage = lowest_stage(heights, columns * rows, wanted, side);
+    if stage == 4_000_000_001 {
         return StageTold::Refused(Refusal::NoStage);
     }
-    StageTold::Stage(number as i64 - 4_000_000_000)
+    StageTold::Stage(stage)
 }

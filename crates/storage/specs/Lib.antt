@@ -1,3 +1,4 @@
+pub mod Over
 pub mod Told
 pub mod Sampled
 pub mod Promises

@@ -1,6 +1,6 @@
 // Pond storage: the litres that a raster of heights holds below a stage. It stands above the surface engine: of rasters it knows what they promise.
 ghost use mathlib.Core.Path.{_≡_};
-ghost use Prim.Native.Nat.{_*_, _≤_};
+ghost use Prim.Native.Nat.{_*_, _≤_, min};
 ghost use lib.IntN.{natAbs};
 ghost use lib.ListN.{length};
 ghost use Rattle.rules.specs.Answers.{answer};
@@ -8,6 +8,7 @@ ghost use Rattle.rules.specs.Grid.{limit};
 ghost use Rattle.rules.specs.Storage as rule;
 ghost use Rattle.rules.specs.Laws.Checks.{AllInRange};
 ghost use Rattle.answers.specs.Cause.{check};
+ghost use Rattle.storage.specs.Over.{Over};
 ghost use Rattle.storage.specs.Told.{told, sumTold};
 ghost use Rattle.storage.specs.Sampled.{Sampled, sampledAnswer};
 use answers::Refusal;
@@ -26,16 +27,30 @@ enum Summed {
     Refused(Refusal),
 }
 
-// "Depth at a node is stage less height where positive, else 0". No sign is tested, so that a sum of depths is fast: 0 less the top bit of height less stage
-// is a mask that keeps all its bits where it is negative, and else none. The other way round, and with signed numbers, the compiler makes the greater
-// of it and 0, for which plain x86-64 has no instruction two at a time.
+// 64 bits of how far a height is over the stage: the top one is 1 exactly where the node is wet.
+fn over(stage: i64, height: i64) -> u64
+    requires { ⌜ (natAbs stage ≤ limit) × (natAbs height ≤ limit) ⌝ }
+    ensures { λ r. ⌜ Over stage height r ⌝ }
+{
+    std::num::wrapping_sub_u64(codec::to_bits(height), codec::to_bits(stage))
+}
+
+// 64 ones where the node is wet, and else none: 0 less the top bit.
+pub fn wet_mask(stage: i64, height: i64) -> u64
+    requires { ⌜ (natAbs stage ≤ limit) × (natAbs height ≤ limit) ⌝ }
+    ensures { λ r. ⌜ r ≡ min 1 (rule.depth stage height) * 18_446_744_073_709_551_615 ⌝ }
+{
+    std::num::wrapping_sub_u64(0, over(stage, height) >> 63)
+}
+
+// "Depth at a node is stage less height where positive, else 0". No sign is tested, so that a sum of depths is fast: the mask keeps all bits of height less
+// stage where it is negative, and else none. The other way round, and with signed numbers, the compiler makes the greater of it and 0, for which plain
+// x86-64 has no instruction two at a time.
 pub fn depth(stage: i64, height: i64) -> u64
     requires { ⌜ (natAbs stage ≤ limit) × (natAbs height ≤ limit) ⌝ }
     ensures { λ r. ⌜ r ≡ rule.depth stage height ⌝ }
 {
-    let over = std::num::wrapping_sub_u64(codec::to_bits(height), codec::to_bits(stage));
-    let mask = std::num::wrapping_sub_u64(0, over >> 63);
-    std::num::wrapping_sub_u64(0, over & mask)
+    std::num::wrapping_sub_u64(0, over(stage, height) & wet_mask(stage, height))
 }
 
 // The sum of depths over a raster that has passed its checks.

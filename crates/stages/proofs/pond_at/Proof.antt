@@ -3,6 +3,7 @@ use mathlib.Core.Path.{_≡_, refl, sym, ap, ap₂, subst, _∙_}
 use mathlib.Core.List.{List}
 use Prim.Native.Nat.{ℕ, _+_, _-_, _*_, _/_, _%_, _^_, _≤_, _<_, min}
 use native.Mathlib.Numerals.{add-one}
+use native.Mathlib.Nat.{add-zero}
 use native.Mathlib.Decide.{decLt}
 use native.Mathlib.Omega.{arith}
 use borrow.Author.Needs.{needs}
@@ -25,29 +26,24 @@ Inv-loop heights n stage sum₀ wet₀ i₀ sum wet i =
 abbrev μ-loop : tie.MeasureT-loop
 μ-loop heights n stage sum₀ wet₀ i₀ sum wet i = n - i
 
--- ---- the top bit of 0 less a depth
+-- ---- a count less the mask of one more node
 
-wraps : (d r : ℕ) → 0 < d → d ≤ 8_000_000_000 → r < 2 ^ 64 → (r + d) % 2 ^ 64 ≡ 0 → r + d ≡ 2 ^ 64
-wraps d r w l f e = omega arith
+less-none : (wet r : ℕ) → r < 2 ^ 64 → (r + 0) % 2 ^ 64 ≡ wet → r ≡ wet
+less-none wet r f e = omega arith
 
-high : (d r : ℕ) → 0 < d → d ≤ 8_000_000_000 → r + d ≡ 2 ^ 64 → r / 2 ^ 63 ≡ 1
-high d r w l e = omega arith
+less-all : (wet r : ℕ) → wet ≤ 8_193 * 8_193 → r < 2 ^ 64 → (r + 18_446_744_073_709_551_615) % 2 ^ 64 ≡ wet → r ≡ wet + 1
+less-all wet r w f e = omega arith
 
-none : (r : ℕ) → r < 2 ^ 64 → (r + 0) % 2 ^ 64 ≡ 0 → r ≡ 0
-none r f e = omega arith
-
-top-bit : (d r : ℕ) → d ≤ 8_000_000_000 → r < 2 ^ 64 → (r + d) % 2 ^ 64 ≡ 0 → r / 2 ^ 63 ≡ min 1 d
-top-bit d r l f e = go (decLt 0 d)
+counted : (wet b r : ℕ) → b ≤ 1 → wet ≤ 8_193 * 8_193 → r < 2 ^ 64 → (r + b * 18_446_744_073_709_551_615) % 2 ^ 64 ≡ wet → r ≡ wet + b
+counted wet b r l w f e = go (decLt 0 b)
   where
-    one : 0 < d → min 1 d ≡ 1
-    one w = omega arith
-
-    zeros : d ≡ 0 → r ≡ 0 → r / 2 ^ 63 ≡ min 1 d
-    zeros dry is = rw (dry, is) refl
-
-    go : Dec (0 < d) → r / 2 ^ 63 ≡ min 1 d
-    go (yes w) = high d r w l (wraps d r w l f e) ∙ sym (one w)
-    go (no g) = let dry : d ≡ 0 = omega (arith, g) in zeros dry (none r f (subst (λ v. (r + v) % 2 ^ 64 ≡ 0) dry e))
+    go : Dec (0 < b) → r ≡ wet + b
+    go (yes m) =
+        let one : b ≡ 1 = omega (arith, m, l) in
+        less-all wet r w f (subst (λ v. (r + v * 18_446_744_073_709_551_615) % 2 ^ 64 ≡ wet) one e) ∙ ap (λ v. wet + v) (sym one)
+    go (no g) =
+        let none : b ≡ 0 = omega (arith, g) in
+        less-none wet r f (subst (λ v. (r + v * 18_446_744_073_709_551_615) % 2 ^ 64 ≡ wet) none e) ∙ sym (add-zero wet) ∙ ap (λ v. wet + v) (sym none)
 
 -- the stage, by its bits, read back
 abbrev stage-held : (c : tie.Start Inv-loop μ-loop) → Held (toZ w64 (ofZ w64 (c .args .stage))) (c .args .stage) limit
@@ -93,12 +89,27 @@ module _ (c : tie.After-depth Inv-loop μ-loop) where
       (depth-most (stage turn) (getD (heights turn) (i turn) (pos 0)) (small limit tt (stage-held (start turn))) (height-held turn .size))
 
 module _ (c : tie.After-wrapping-sub-u64 Inv-loop μ-loop) where
-  abbrev summed : tie.After-depth Inv-loop μ-loop
-  summed = c .before
+  abbrev masked : tie.After-wet-mask Inv-loop μ-loop
+  masked = c .before
 
-  wet-is : c .wrapping-sub-u64 .result / 2 ^ 63 ≡ wet (stage (turn summed)) (getD (heights (turn summed)) (i (turn summed)) (pos 0))
+  abbrev summed : tie.After-depth Inv-loop μ-loop
+  summed = masked .before .before
+
+  abbrev height : ℤ
+  height = getD (heights (turn summed)) (i (turn summed)) (pos 0)
+
+  mask-is : masked .wet-mask .result ≡ wet (stage (turn summed)) height * 18_446_744_073_709_551_615
   unfolding wet
-  wet-is = top-bit (summed .depth .result) (c .wrapping-sub-u64 .result) (depth-fits summed) (omega arith) (c .wrapping-sub-u64 .ensures) ∙ ap (min 1) (depth-is summed)
+  mask-is = masked .wet-mask .ensures ∙ ap (λ z. min 1 (depth (stage (turn summed)) z) * 18_446_744_073_709_551_615) (height-held (turn summed) .is)
+
+  at-most-one : wet (stage (turn summed)) height ≤ 1
+  unfolding wet
+  at-most-one = omega arith
+
+  count-is : c .wrapping-sub-u64 .result ≡ turn summed .before .loop .wet + wet (stage (turn summed)) height
+  count-is =
+      counted (turn summed .before .loop .wet) (wet (stage (turn summed)) height) (c .wrapping-sub-u64 .result) at-most-one (wet-fits (turn summed)) (omega arith)
+      (ap (λ m. (c .wrapping-sub-u64 .result + m) % 2 ^ 64) (sym mask-is) ∙ c .wrapping-sub-u64 .ensures)
 
 -- ---- what it adds up
 
@@ -111,7 +122,7 @@ unfolding depths wets
 loop-again c =
     let t = turn (summed c) in (
       ap₂ _+_ (t .before .loop .inv .0) (depth-is (summed c)) ∙ ap (λ n. depths n (heights t) (stage t)) (sym (add-one (i t))),
-      ap₂ _+_ (t .before .loop .inv .1) (wet-is c) ∙ ap (λ n. wets n (heights t) (stage t)) (sym (add-one (i t))),
+      count-is c ∙ ap (λ v. v + wet (stage t) (height c)) (t .before .loop .inv .1) ∙ ap (λ n. wets n (heights t) (stage t)) (sym (add-one (i t))),
       omega (arith, t .loop-test .taken),
     )
 
@@ -141,14 +152,20 @@ add-sum c = omega (arith, sum-fits (turn c), depth-fits c)
 wrapping-sub-u64-requires : tie.Need-wrapping-sub-u64-requires Inv-loop μ-loop
 wrapping-sub-u64-requires c κs = search needs
 
-add-wet : tie.Need-add-wet Inv-loop μ-loop
-add-wet c = omega (arith, wet-fits (turn (summed c)))
-
 add-i : tie.Need-add-i Inv-loop μ-loop
 add-i c = omega arith
 
 loop-less : tie.Need-loop-less Inv-loop μ-loop
 loop-less c = omega arith
+
+mul-wet-mask : tie.Need-mul-wet-mask Inv-loop μ-loop
+mul-wet-mask c = omega arith
+
+shared-slice-copy-out-wet-mask : tie.Need-shared-slice-copy-out-wet-mask Inv-loop μ-loop
+shared-slice-copy-out-wet-mask c = omega (arith, start (turn c) .pre .0, turn c .loop-test .taken)
+
+wet-mask-requires : tie.Need-wet-mask-requires Inv-loop μ-loop
+wet-mask-requires c κs = let t = turn (c .before) in (small limit tt (stage-held (start t)), small limit tt (height-held t))
 
 pub pond-at-spec : {M : Type 1} → statement M
 pond-at-spec =
@@ -161,8 +178,10 @@ pond-at-spec =
     shared-slice-copy-out-depth
     depth-requires
     add-sum
+    mul-wet-mask
+    shared-slice-copy-out-wet-mask
+    wet-mask-requires
     wrapping-sub-u64-requires
-    add-wet
     add-i
     loop-less
     loop-again

@@ -28,6 +28,16 @@ Inv-loop heights n needed left₀ most₀ low₀ high₀ left most low high =
 abbrev μ-loop : tie.MeasureT-loop
 μ-loop heights n needed left₀ most₀ low₀ high₀ left most low high = left
 
+-- ---- a stage from its number
+
+module _ (k : ℕ) (l : k ≤ 8_000_000_001) where
+  number-less : Held (toZ w64 k -ℤ pos 4_000_000_000) (pos k -ℤ pos 4_000_000_000) (8_000_000_001 + 4_000_000_000)
+  number-less = minus (cast k 8_000_000_001 l tt) (literal (pos 4_000_000_000))
+
+  stage-is : toZ w64 (ofZ w64 (toZ w64 k -ℤ pos 4_000_000_000)) ≡ stageAt k
+  unfolding stageAt
+  stage-is = read tt number-less .is
+
 -- ---- where it begins
 
 module _ (c : tie.After-ceiling Inv-loop μ-loop) where
@@ -106,13 +116,8 @@ module _ (c : tie.In-loop Inv-loop μ-loop) where
   k-most : k ≤ 8_000_000_000
   k-most = omega (arith, inside .1, bracket .last)
 
-  -- its stage
-  abbrev stage-held : Held (toZ w64 (ofZ w64 (toZ w64 k -ℤ pos 4_000_000_000))) (pos k -ℤ pos 4_000_000_000) (8_000_000_000 + 4_000_000_000)
-  stage-held = read tt (minus (cast k 8_000_000_000 k-most tt) (literal (pos 4_000_000_000)))
-
-  stage-is : toZ w64 (ofZ w64 (toZ w64 k -ℤ pos 4_000_000_000)) ≡ stageAt k
-  unfolding stageAt
-  stage-is = stage-held .is
+  k-number : k ≤ 8_000_000_001
+  k-number = omega (arith, k-most)
 
   -- no node is wet at the lowest stage
   dry : depths n heights (stageAt 0) ≡ 0
@@ -124,10 +129,10 @@ module _ (c : tie.After-pond-at Inv-loop μ-loop) where
   turn = c .before
 
   sum-is : c .pond-at .result .sum ≡ depths (n turn) (heights turn) (stageAt (k turn))
-  sum-is = c .pond-at .ensures .0 ∙ ap (depths (n turn) (heights turn)) (stage-is turn)
+  sum-is = c .pond-at .ensures .0 ∙ ap (depths (n turn) (heights turn)) (stage-is (k turn) (k-number turn))
 
   wet-is : c .pond-at .result .wet ≡ wets (n turn) (heights turn) (stageAt (k turn))
-  wet-is = c .pond-at .ensures .1 ∙ ap (wets (n turn) (heights turn)) (stage-is turn)
+  wet-is = c .pond-at .ensures .1 ∙ ap (wets (n turn) (heights turn)) (stage-is (k turn) (k-number turn))
 
 -- ---- tried, and too little
 
@@ -182,10 +187,12 @@ returns : tie.Need-returns Inv-loop μ-loop
 returns c =
     let e = c .before in
     let t = high-turn e in
-    is-lowest (bracket t) (k t) _ (sum-is (full e)) _ (wet-is (full e)) (enough e) (needed-some e) (dry t) (c .if2 .taken) (inside t .1)
+    stage-is (k t) (k-number t)
+    ∙ ap stageAt
+    (is-lowest (bracket t) (k t) _ (sum-is (full e)) _ (wet-is (full e)) (enough e) (needed-some e) (dry t) (c .if2 .taken) (inside t .1))
 
 returns-2 : tie.Need-returns-2 Inv-loop μ-loop
-returns-2 c = shut (c .before .loop .inv .0) (omega arith)
+returns-2 c = let l = c .before .loop in stage-is (l .high) (l .inv .0 .last) ∙ ap stageAt (shut (l .inv .0) (omega arith))
 
 loop-again-2 : tie.Need-loop-again-2 Inv-loop μ-loop
 loop-again-2 c =
@@ -215,14 +222,14 @@ sub-left c = left-some _ (c .loop-test .taken) (c .before .loop .inv .1)
 add-k : tie.Need-add-k Inv-loop μ-loop
 add-k c = omega (arith, c .before .loop .inv .4, bracket c .last)
 
-cast-pond-at : tie.Need-cast-pond-at Inv-loop μ-loop
-cast-pond-at c = size-fits (pos (k c)) 8_000_000_000 (k-most c) tt
+cast-stage : tie.Need-cast-stage Inv-loop μ-loop
+cast-stage c = size-fits (pos (k c)) 8_000_000_000 (k-most c) tt
 
-sub-pond-at : tie.Need-sub-pond-at Inv-loop μ-loop
-sub-pond-at c = fits tt (minus (cast (k c) 8_000_000_000 (k-most c) tt) (literal (pos 4_000_000_000)))
+sub-stage : tie.Need-sub-stage Inv-loop μ-loop
+sub-stage c = fits tt (number-less (k c) (k-number c))
 
 pond-at-requires : tie.Need-pond-at-requires Inv-loop μ-loop
-pond-at-requires c κs = let p = start c .pre in (p .0, p .1, p .2, rw (stage-is c) (stage-in-range (k c) .1 (k-most c)))
+pond-at-requires c κs = let p = start c .pre in (p .0, p .1, p .2, rw (stage-is (k c) (k-number c)) (stage-in-range (k c) .1 (k-most c)))
 
 sub-ceiling : tie.Need-sub-ceiling Inv-loop μ-loop
 sub-ceiling c = omega (arith, c .before .if1 .taken)
@@ -250,6 +257,12 @@ sub-high c =
 loop-less-2 : tie.Need-loop-less-2 Inv-loop μ-loop
 loop-less-2 c = let t = high-turn (c .before) in omega (arith, left-some _ (t .loop-test .taken) (t .before .loop .inv .1))
 
+cast-result : tie.Need-cast-result Inv-loop μ-loop
+cast-result c = size-fits (pos (c .before .loop .high)) 8_000_000_001 (c .before .loop .inv .0 .last) tt
+
+sub-result : tie.Need-sub-result Inv-loop μ-loop
+sub-result c = fits tt (number-less (c .before .loop .high) (c .before .loop .inv .0 .last))
+
 pub search-spec : {M : Type 1} → statement M
 search-spec =
     tie.close
@@ -262,8 +275,8 @@ search-spec =
     loop-holds
     sub-left
     add-k
-    cast-pond-at
-    sub-pond-at
+    cast-stage
+    sub-stage
     pond-at-requires
     sub-ceiling
     ceiling-requires-2
@@ -275,4 +288,6 @@ search-spec =
     sub-high
     loop-less-2
     loop-again-2
+    cast-result
+    sub-result
     returns-2)

@@ -3,6 +3,7 @@ use mathlib.Core.Path.{_≡_, sym, ap, subst, _∙_}
 use mathlib.Core.Option.{none, some}
 use mathlib.Core.List.{List}
 use Prim.Native.Nat.{ℕ, _+_, _*_, _≤_, _<_}
+use native.Mathlib.Decide.{decLt}
 use native.Mathlib.Omega.{arith}
 use borrow.Author.Needs.{needs}
 use lib.Dec.{leb}
@@ -10,7 +11,7 @@ use lib.IntN.{ℤ, pos, _-ℤ_}
 use lib.ListN.{length}
 use mir.Syntax.{w64}
 use mir.Val.{toZ, ofZ}
-use Rattle.machine.specs.Held.{Held, size-fits, literal, cast, read, minus, fits}
+use Rattle.algebra.specs.Difference.{whole}
 use Rattle.rules.specs.Answers.{Refusal, range, noStage, Answer, accepted, refused}
 use Rattle.rules.specs.Storage.{depths, litres, storage, pondCheck, heightsCheck}
 use Rattle.rules.specs.Stage.{LowestStage, enough, lowestOf, stageAt, stageFor, stageForCheck, stageForAnswer}
@@ -19,14 +20,33 @@ use Rattle.rules.specs.Laws.Storage.{pond-passed, heights-passed, place-most}
 use Rattle.rules.specs.Laws.Stage.{lowestOf-most, answer-lowest, reach-refused, reach-passed}
 use Rattle.answers.specs.Cause.{found}
 use Rattle.range.specs.Found.{foundCheck}
+use Rattle.stages.proofs.Back.{stage-back}
 use Rattle.stages.proofs.stage_for.Statement.{statement}
 use Rattle.stages.proofs.stage_for.Tie as tie
+
+-- ---- the stage past the highest, by its number
+
+past-is : (k : ℕ) → stageAt k ≡ pos 4_000_000_001 → k ≡ 8_000_000_001
+unfolding stageAt
+past-is k = simp whole (omega arith)
+
+in-range-number : (k : ℕ) → k ≤ 8_000_000_001 → (stageAt k ≡ pos 4_000_000_001 → ⊥) → k < 8_000_000_001
+unfolding stageAt
+in-range-number k l g = go (decLt k 8_000_000_001)
+  where
+    go : Dec (k < 8_000_000_001) → k < 8_000_000_001
+    go (yes h) = h
+    go (no h) = let last : k ≡ 8_000_000_001 = omega arith in absurd (g (ap stageAt last))
 
 -- ---- the answer, by what was found
 
 module _ (columns rows : ℕ) (heights : List ℤ) (wanted s : ℕ) where
   abbrev count : ℕ
   count = columns * rows
+
+  -- the number of the stage that is found
+  abbrev number : ℕ
+  number = lowestOf 8_000_000_001 (λ k. leb wanted (litres (depths count heights (stageAt k)) s))
 
   -- what the contract says of an answer
   abbrev Answers : Answer ℤ → Type 0
@@ -45,26 +65,24 @@ module _ (columns rows : ℕ) (heights : List ℤ) (wanted s : ℕ) where
     by-height e = of-both (some-answer _ (then-none (pondCheck columns rows heights s) _ ponded ∙ then-some (heightsCheck count heights) _ e))
 
     module _ (in-range : heightsCheck count heights ≡ none) where
-      -- the number that was found
-      module _ {number : ℕ} (is : number ≡ lowestOf 8_000_000_001 (λ k. leb wanted (litres (depths count heights (stageAt k)) s))) where
-        by-none : number ≡ 8_000_000_001 → Answers (refused noStage)
-        unfolding stageForAnswer stageForCheck enough storage
-        by-none e =
-            of-both
-            (some-answer _
-            (then-none (pondCheck columns rows heights s) _ ponded
-            ∙ then-none (heightsCheck count heights) _ in-range
-            ∙ reach-refused columns rows heights wanted s (sym is ∙ e)))
+      by-none : stageAt number ≡ pos 4_000_000_001 → Answers (refused noStage)
+      unfolding stageForAnswer stageForCheck enough storage
+      by-none e =
+          of-both
+          (some-answer _
+          (then-none (pondCheck columns rows heights s) _ ponded
+          ∙ then-none (heightsCheck count heights) _ in-range
+          ∙ reach-refused columns rows heights wanted s (past-is number e)))
 
-        by-stage : number < 8_000_000_001 → {z : ℤ} → z ≡ stageAt number → Answers (accepted z)
-        unfolding stageForAnswer stageForCheck stageFor enough storage
-        by-stage l at =
-            of-both
-            (none-answer _
-            (then-none (pondCheck columns rows heights s) _ ponded
-            ∙ then-none (heightsCheck count heights) _ in-range
-            ∙ reach-passed columns rows heights wanted s (rw (← is) l))
-            (at ∙ ap stageAt is))
+      by-stage : (stageAt number ≡ pos 4_000_000_001 → ⊥) → {z : ℤ} → z ≡ stageAt number → Answers (accepted z)
+      unfolding stageForAnswer stageForCheck stageFor enough storage
+      by-stage g at =
+          of-both
+          (none-answer _
+          (then-none (pondCheck columns rows heights s) _ ponded
+          ∙ then-none (heightsCheck count heights) _ in-range
+          ∙ reach-passed columns rows heights wanted s (in-range-number number (lowestOf-most 8_000_000_001 _) g))
+          at)
 
 -- ---- what is known behind each check
 
@@ -94,20 +112,6 @@ module _ (c : tie.After-enum-told2) where
   unfolding heightsCheck
   in-range = c .before .before .first-out .ensures (λ i. range (i + 1)) ∙ ap (foundCheck _) (c .enum-told2 .given .1)
 
--- the number is that of a stage
-module _ (c : tie.Else1) where
-  number-most : c .before .number-for .result ≤ 8_000_000_000
-  number-most =
-      let most = subst (λ v. v ≤ 8_000_000_001) (sym (c .before .number-for .ensures)) (lowestOf-most 8_000_000_001 _) in
-      omega (arith, c .if1 .left, most)
-
-  abbrev stage-held : let k = c .before .number-for .result in Held (toZ w64 (ofZ w64 (toZ w64 k -ℤ pos 4_000_000_000))) (pos k -ℤ pos 4_000_000_000) (8_000_000_000 + 4_000_000_000)
-  stage-held = read tt (minus (cast (c .before .number-for .result) 8_000_000_000 number-most tt) (literal (pos 4_000_000_000)))
-
-  stage-is : let k = c .before .number-for .result in toZ w64 (ofZ w64 (toZ w64 k -ℤ pos 4_000_000_000)) ≡ stageAt k
-  unfolding stageAt
-  stage-is = stage-held .is
-
 -- ---- what it answers
 
 returns : tie.Need-returns
@@ -120,17 +124,22 @@ returns-2 c =
     let a = start (looked c) .args in
     by-height (a .columns) (a .rows) (a .heights .now) (a .wanted) (a .side) (ponded (looked c)) (out-is c)
 
+-- the stage that was told, read back
+told-back : (c : tie.After-lowest-stage) → let a = start (scanned (c .before)) .args in toZ w64 (ofZ w64 (c .lowest-stage .result)) ≡ stageAt (number (a .columns) (a .rows) (a .heights .now) (a .wanted) (a .side))
+told-back c = stage-back (c .lowest-stage .result) _ (lowestOf-most 8_000_000_001 _) (c .lowest-stage .ensures)
+
 returns-3 : tie.Need-returns-3
 returns-3 c =
     let e = c .before .before in
     let a = start (scanned e) .args in
-    by-none (a .columns) (a .rows) (a .heights .now) (a .wanted) (a .side) (ponded (scanned e)) (in-range e) (c .before .number-for .ensures) (c .if1 .taken)
+    by-none (a .columns) (a .rows) (a .heights .now) (a .wanted) (a .side) (ponded (scanned e)) (in-range e) (sym (told-back (c .before)) ∙ ap (toZ w64) (c .if1 .taken))
 
 returns-4 : tie.Need-returns-4
 returns-4 c =
     let e = c .before .before in
     let a = start (scanned e) .args in
-    by-stage (a .columns) (a .rows) (a .heights .now) (a .wanted) (a .side) (ponded (scanned e)) (in-range e) (c .before .number-for .ensures) (omega (arith, number-most c)) (stage-is c)
+    by-stage (a .columns) (a .rows) (a .heights .now) (a .wanted) (a .side) (ponded (scanned e)) (in-range e)
+    (λ past. c .if1 .left (ap (ofZ w64) (c .before .lowest-stage .ensures ∙ past))) (told-back (c .before))
 
 -- ---- what its steps ask
 
@@ -158,20 +167,14 @@ add-t12 c = let a = start (looked c) .args in omega (arith, place-most (a .colum
 enum-told-2 : tie.Need-enum-told-2
 enum-told-2 c = search needs
 
-mul-number-for : tie.Need-mul-number-for
-mul-number-for c = omega (arith, passed (scanned c) .0)
+mul-lowest-stage : tie.Need-mul-lowest-stage
+mul-lowest-stage c = omega (arith, passed (scanned c) .0)
 
-number-for-requires : tie.Need-number-for-requires
-number-for-requires c κs =
+lowest-stage-requires : tie.Need-lowest-stage-requires
+lowest-stage-requires c κs =
     let a = start (scanned c) .args in
     let p = passed (scanned c) in
     (p .1, p .0, heights-passed (a .columns * a .rows) (a .heights .now) (in-range c), p .3, p .2)
-
-cast-t16 : tie.Need-cast-t16
-cast-t16 c = size-fits (pos (c .before .number-for .result)) 8_000_000_000 (number-most c) tt
-
-sub-t17 : tie.Need-sub-t17
-sub-t17 c = fits tt (minus (cast (c .before .number-for .result) 8_000_000_000 (number-most c) tt) (literal (pos 4_000_000_000)))
 
 pub stage-for-spec : {M : Type 1} → statement M
 stage-for-spec =
@@ -187,9 +190,7 @@ stage-for-spec =
     add-t12
     returns-2
     enum-told-2
-    mul-number-for
-    number-for-requires
+    mul-lowest-stage
+    lowest-stage-requires
     returns-3
-    cast-t16
-    sub-t17
     returns-4)

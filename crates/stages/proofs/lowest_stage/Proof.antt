@@ -1,4 +1,4 @@
--- `stages::number_for` meets its contract: a sum stores the wanted litres exactly if it is at least the needed one.
+-- `stages::lowest_stage` meets its contract: a sum stores the wanted litres exactly if it is at least the needed one.
 use mathlib.Core.Path.{_≡_, refl, sym, ap, _∙_}
 use mathlib.Core.Bool.{true, false}
 use mathlib.Core.Logic.{inl, inr}
@@ -10,17 +10,18 @@ use native.Mathlib.Omega.{arith}
 use borrow.Author.Needs.{needs}
 use borrow.Author.Tests.{le-leb, lt-leb}
 use lib.Dec.{leb, lit<}
-use lib.IntN.{ℤ}
+use lib.IntN.{ℤ, pos, negsuc}
 use Rattle.rules.specs.Storage.{depths, litres}
 use Rattle.rules.specs.Stage.{lowestOf, stageAt}
 use Rattle.rules.specs.Laws.Checks.{AllInRange}
 use Rattle.rules.specs.Laws.Storage.{litres-rise, depths-most}
-use Rattle.rules.specs.Laws.Stage.{lowestOf-found, lowestOf-same, stage-in-range, neededSum, needed-stores, needed-some}
-use Rattle.stages.proofs.number_for.Statement.{statement}
-use Rattle.stages.proofs.number_for.Tie as tie
+use Rattle.rules.specs.Laws.Stage.{lowestOf-found, lowestOf-most, lowestOf-same, stage-in-range, neededSum, needed-stores, needed-some}
+use Rattle.stages.proofs.Back.{stage-back}
+use Rattle.stages.proofs.lowest_stage.Statement.{statement}
+use Rattle.stages.proofs.lowest_stage.Tie as tie
 
 module _ (heights : List ℤ) (n wanted side : ℕ) where
-  -- the number that is looked for
+  -- the number of the stage that is looked for
   abbrev number : ℕ
   number = lowestOf 8_000_000_001 (λ k. leb wanted (litres (depths n heights (stageAt k)) side))
 
@@ -54,14 +55,23 @@ module _ (heights : List ℤ) (n wanted side : ℕ) where
       lowestOf-same 8_000_000_001 (λ k. leb (neededSum wanted side) (depths n heights (stageAt k))) (λ k. leb wanted (litres (depths n heights (stageAt k)) side))
       (λ k. sym (same-test h (depths n heights (stageAt k))))
 
+-- the lowest stage, and the one past the highest
+lowest-is : negsuc 3_999_999_999 ≡ stageAt 0
+unfolding stageAt
+lowest-is = refl
+
+none-is : pos 4_000_000_001 ≡ stageAt 8_000_000_001
+unfolding stageAt
+none-is = refl
+
 returns : tie.Need-returns
-returns c = let a = c .before .args in none-wanted (a .heights .now) (a .n) (a .wanted) (a .side) (c .if1 .taken)
+returns c = let a = c .before .args in lowest-is ∙ ap stageAt (none-wanted (a .heights .now) (a .n) (a .wanted) (a .side) (c .if1 .taken))
 
 returns-2 : tie.Need-returns-2
 returns-2 c =
     let s = c .before .before .before in
     let a = s .args in
-    too-much (a .heights .now) (a .n) (a .wanted) (a .side) (s .pre .2) (omega (arith, c .before .litres .ensures, c .if2 .taken))
+    none-is ∙ ap stageAt (too-much (a .heights .now) (a .n) (a .wanted) (a .side) (s .pre .2) (omega (arith, c .before .litres .ensures, c .if2 .taken)))
 
 -- ---- where it is not too much
 
@@ -89,9 +99,10 @@ returns-3 : tie.Need-returns-3
 returns-3 c =
     let s = start (c .before .before) in
     let a = s .args in
-    c .search .ensures
-    ∙ ap (λ v. lowestOf 8_000_000_001 (λ k. leb v (depths (a .n) (a .heights .now) (stageAt k)))) (c .before .needed-sum .ensures)
-    ∙ as-searched (a .heights .now) (a .n) (a .wanted) (a .side) (s .pre .3)
+    stage-back (c .search .result) (number (a .heights .now) (a .n) (a .wanted) (a .side)) (lowestOf-most 8_000_000_001 _)
+    (c .search .ensures
+    ∙ ap (λ v. stageAt (lowestOf 8_000_000_001 (λ k. leb v (depths (a .n) (a .heights .now) (stageAt k))))) (c .before .needed-sum .ensures)
+    ∙ ap stageAt (as-searched (a .heights .now) (a .n) (a .wanted) (a .side) (s .pre .3)))
 
 -- ---- what its steps ask
 
@@ -118,5 +129,14 @@ search-requires c κs =
       omega (arith, c .needed-sum .ensures, least-most e, p .1),
     )
 
-pub number-for-spec : {M : Type 1} → statement M
-number-for-spec = tie.close (tie.spec returns mul-litres litres-requires returns-2 needed-sum-requires search-requires returns-3)
+pub lowest-stage-spec : {M : Type 1} → statement M
+lowest-stage-spec =
+    tie.close
+    (tie.spec
+    returns
+    mul-litres
+    litres-requires
+    returns-2
+    needed-sum-requires
+    search-requires
+    returns-3)
