@@ -46,25 +46,25 @@ fn pond_at(heights: &[i64], n: usize, stage: i64) -> Pond
     Pond { sum, wet }
 }
 
-fn lower(a: i64, b: i64) -> i64
-    requires { ⌜ (natAbs a ≤ limit) × (natAbs b ≤ limit) ⌝ }
-    ensures { λ r. ⌜ (natAbs r ≤ limit) × (r ≤ℤ a) × (r ≤ℤ b) ⌝ }
-{
-    if a < b { a } else { b }
-}
-
-// The number of the lowest of the first n heights as a stage, where no node is wet yet.
-fn lowest_number(heights: &[i64], n: usize) -> u64
-    requires { ⌜ (n ≤ length (now heights)) × AllInRange n (now heights) ⌝ }
+// The number of a stage at which no node is wet. It is below the first height by the "or" of all depths below that height, which is no less than any of them
+// and less than twice the greatest: plain x86-64 has no instruction for the lesser of two such numbers, and the lowest height would take twice as long.
+fn dry_number(heights: &[i64], n: usize) -> u64
+    requires { ⌜ (n ≤ length (now heights)) × AllInRange n (now heights) × (0 < n) ⌝ }
     ensures { λ r. ⌜ (r ≤ 8_000_000_000) × ((i : ℕ) → i < n → stageAt r ≤ℤ getD (now (heights .entry)) i (pos 0)) ⌝ }
 {
-    let mut lowest = 4_000_000_000;
+    let first = heights[0];
+    let mut deepest = 0u64;
     let mut i = 0;
     while i < n {
-        lowest = lower(heights[i], lowest);
+        deepest = deepest | storage::depth(first, heights[i]);
         i += 1;
     }
-    (lowest + 4_000_000_000) as u64
+    let number = (first + 4_000_000_000) as u64;
+    if number < deepest {
+        0
+    } else {
+        number - deepest
+    }
 }
 
 // a over d, rounded up
@@ -93,7 +93,7 @@ fn search(heights: &[i64], n: usize, needed: u64) -> i64
 {
     let mut left = 33u64;
     let mut most = n as u64;
-    let mut low = lowest_number(heights, n) + ceiling(needed, most);
+    let mut low = dry_number(heights, n) + ceiling(needed, most);
     let mut high = 8_000_000_001u64;
     while low < high {
         left -= 1;

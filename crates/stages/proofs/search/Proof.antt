@@ -45,7 +45,7 @@ module _ (c : tie.After-ceiling Inv-loop μ-loop) where
   first = c .before .before
 
   abbrev lowest : ℕ
-  lowest = c .before .lowest-number .result
+  lowest = c .before .dry-number .result
 
   -- every stage in range is in it
   whole-range : Bracket (first .args .heights .now) (first .args .n) (first .args .needed) 0 8_000_000_001 (first .args .n)
@@ -58,7 +58,7 @@ module _ (c : tie.After-ceiling Inv-loop μ-loop) where
 
   -- and at the lowest height no node is wet
   none-wet : 0 ≡ depths (first .args .n) (first .args .heights .now) (stageAt lowest)
-  none-wet = sym (sum-none (first .args .heights .now) (first .args .n) lowest (c .before .lowest-number .ensures .1))
+  none-wet = sym (sum-none (first .args .heights .now) (first .args .n) lowest (c .before .dry-number .ensures .1))
 
   first-is : c .ceiling .result ≡ (first .args .needed - 0 + (first .args .n - 1)) / first .args .n
   first-is = let none-less : first .args .needed ≡ first .args .needed - 0 = omega arith in c .ceiling .ensures ∙ ap (λ v. (v + (first .args .n - 1)) / first .args .n) none-less
@@ -76,7 +76,7 @@ loop-holds c =
       omega arith,
       f .pre .3,
       f .pre .1,
-      omega (arith, c .before .lowest-number .ensures .0, first-most c, f .pre .5),
+      omega (arith, c .before .dry-number .ensures .0, first-most c, f .pre .5),
     )
 
 -- ---- a turn
@@ -207,14 +207,14 @@ loop-again-2 c =
 
 -- ---- what its steps ask
 
-lowest-number-requires : tie.Need-lowest-number-requires Inv-loop μ-loop
-lowest-number-requires c κs = (c .pre .0, c .pre .2)
+dry-number-requires : tie.Need-dry-number-requires Inv-loop μ-loop
+dry-number-requires c κs = (c .pre .0, c .pre .2, c .pre .3)
 
 ceiling-requires : tie.Need-ceiling-requires Inv-loop μ-loop
 ceiling-requires c κs = let p = c .before .pre in (p .3, omega (arith, p .5), omega (arith, p .1))
 
 add-low : tie.Need-add-low Inv-loop μ-loop
-add-low c = omega (arith, c .before .lowest-number .ensures .0, first-most c, first c .pre .5)
+add-low c = omega (arith, c .before .dry-number .ensures .0, first-most c, first c .pre .5)
 
 sub-left : tie.Need-sub-left Inv-loop μ-loop
 sub-left c = left-some _ (c .loop-test .taken) (c .before .loop .inv .1)
@@ -269,7 +269,7 @@ search-spec =
     (tie.spec
     Inv-loop
     μ-loop
-    lowest-number-requires
+    dry-number-requires
     ceiling-requires
     add-low
     loop-holds
