@@ -29,7 +29,21 @@ struct Pond {
     wet: u64,
 }
 
-// The pond of the first n heights, which have passed their checks. Where a node is wet the mask is 0 less 1.
+// What the nodes from `start` to `end`, 64 at most, add to the pond: their depths, and 2^40 for each that is wet. 64 depths are below 2^40.
+fn block_at(heights: &[i64], start: usize, end: usize, stage: i64) -> u64
+    requires { ⌜ (start ≤ end) × (end ≤ start + 64) × (end ≤ length (now heights)) × AllInRange end (now heights) × (natAbs stage ≤ limit) ⌝ }
+    ensures { λ r. ⌜ r + (depths start (now (heights .entry)) stage + wets start (now (heights .entry)) stage * 1_099_511_627_776) ≡ depths end (now (heights .entry)) stage + wets end (now (heights .entry)) stage * 1_099_511_627_776 ⌝ }
+{
+    let mut sum = 0u64;
+    let mut i = start;
+    while i < end {
+        sum += storage::marked_depth(stage, heights[i]);
+        i += 1;
+    }
+    sum
+}
+
+// The pond of the first n heights, which have passed their checks, 64 at a time.
 fn pond_at(heights: &[i64], n: usize, stage: i64) -> Pond
     requires { ⌜ (n ≤ length (now heights)) × (n ≤ 8_193 * 8_193) × AllInRange n (now heights) × (natAbs stage ≤ limit) ⌝ }
     ensures { λ r. ⌜ r .sum ≡ depths n (now (heights .entry)) stage ⌝ }
@@ -38,12 +52,17 @@ fn pond_at(heights: &[i64], n: usize, stage: i64) -> Pond
     let mut sum = 0u64;
     let mut wet = 0u64;
     let mut i = 0;
-    while i < n {
-        sum += storage::depth(stage, heights[i]);
-        wet = std::num::wrapping_sub_u64(wet, storage::wet_mask(stage, heights[i]));
-        i += 1;
+    while i + 64 <= n {
+        let block = block_at(heights, i, i + 64, stage);
+        sum += block % 1_099_511_627_776;
+        wet += block / 1_099_511_627_776;
+        i += 64;
     }
-    Pond { sum, wet }
+    let rest = block_at(heights, i, n, stage);
+    Pond {
+        sum: sum + rest % 1_099_511_627_776,
+        wet: wet + rest / 1_099_511_627_776,
+    }
 }
 
 // The number of a stage at which no node is wet. It is below the first height by the "or" of all depths below that height, which is no less than any of them

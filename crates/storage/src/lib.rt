@@ -1,6 +1,6 @@
 // Pond storage: the litres that a raster of heights holds below a stage. It stands above the surface engine: of rasters it knows what they promise.
 ghost use mathlib.Core.Path.{_≡_};
-ghost use Prim.Native.Nat.{_*_, _≤_, min};
+ghost use Prim.Native.Nat.{_+_, _*_, _≤_, min};
 ghost use lib.IntN.{natAbs};
 ghost use lib.ListN.{length};
 ghost use Rattle.rules.specs.Answers.{answer};
@@ -36,7 +36,7 @@ fn over(stage: i64, height: i64) -> u64
 }
 
 // 64 ones where the node is wet, and else none: 0 less the top bit.
-pub fn wet_mask(stage: i64, height: i64) -> u64
+fn wet_mask(stage: i64, height: i64) -> u64
     requires { ⌜ (natAbs stage ≤ limit) × (natAbs height ≤ limit) ⌝ }
     ensures { λ r. ⌜ r ≡ min 1 (rule.depth stage height) * 18_446_744_073_709_551_615 ⌝ }
 {
@@ -51,6 +51,15 @@ pub fn depth(stage: i64, height: i64) -> u64
     ensures { λ r. ⌜ r ≡ rule.depth stage height ⌝ }
 {
     std::num::wrapping_sub_u64(0, over(stage, height) & wet_mask(stage, height))
+}
+
+// A depth, and 2^40 with it where the node is wet: a sum of few has both the sum of depths and how many nodes are wet.
+pub fn marked_depth(stage: i64, height: i64) -> u64
+    requires { ⌜ (natAbs stage ≤ limit) × (natAbs height ≤ limit) ⌝ }
+    ensures { λ r. ⌜ r ≡ rule.depth stage height + min 1 (rule.depth stage height) * 1_099_511_627_776 ⌝ }
+{
+    let marked = std::num::wrapping_sub_u64(over(stage, height), 1_099_511_627_776);
+    std::num::wrapping_sub_u64(0, marked & wet_mask(stage, height))
 }
 
 // The sum of depths over a raster that has passed its checks.

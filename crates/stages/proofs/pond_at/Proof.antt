@@ -1,21 +1,20 @@
 -- `stages::pond_at` meets its contract. The loop's invariant: both sums are those of the heights passed.
-use mathlib.Core.Path.{_≡_, refl, sym, ap, ap₂, subst, _∙_}
+use mathlib.Core.Path.{_≡_, refl, sym, ap₂, subst, _∙_}
 use mathlib.Core.List.{List}
-use Prim.Native.Nat.{ℕ, _+_, _-_, _*_, _/_, _%_, _^_, _≤_, _<_, min}
-use native.Mathlib.Numerals.{add-one}
-use native.Mathlib.Nat.{add-zero}
-use native.Mathlib.Decide.{decLt}
+use Prim.Native.Nat.{ℕ, _+_, _-_, _*_, _/_, _%_, _≤_, _<_}
+use native.Mathlib.Nat.{add-sub-of-le}
 use native.Mathlib.Omega.{arith}
-use borrow.Author.Needs.{needs}
-use lib.IntN.{ℤ, pos}
-use lib.ListN.{length, getD}
+use lib.IntN.{ℤ, natAbs}
+use lib.ListN.{length}
 use mir.Syntax.{w64}
 use mir.Val.{toZ, ofZ}
 use Rattle.machine.specs.Held.{Held, itself, read, small}
 use Rattle.rules.specs.Grid.{limit}
-use Rattle.rules.specs.Storage.{depth, depths}
-use Rattle.rules.specs.Laws.Storage.{depth-most, sum-most}
-use Rattle.rules.specs.Laws.Stage.{wet, wets, wets-most}
+use Rattle.rules.specs.Storage.{depths}
+use Rattle.rules.specs.Laws.Checks.{AllInRange}
+use Rattle.rules.specs.Laws.Storage.{sum-most}
+use Rattle.rules.specs.Laws.Stage.{wets, wets-most}
+use Rattle.stages.proofs.Parts.{depths-grow, wets-grow}
 use Rattle.stages.proofs.pond_at.Statement.{statement}
 use Rattle.stages.proofs.pond_at.Tie as tie
 
@@ -26,146 +25,147 @@ Inv-loop heights n stage sum₀ wet₀ i₀ sum wet i =
 abbrev μ-loop : tie.MeasureT-loop
 μ-loop heights n stage sum₀ wet₀ i₀ sum wet i = n - i
 
--- ---- a count less the mask of one more node
+-- ---- what a block adds, taken apart
 
-less-none : (wet r : ℕ) → r < 2 ^ 64 → (r + 0) % 2 ^ 64 ≡ wet → r ≡ wet
-less-none wet r f e = omega arith
+low-part : (block d w : ℕ) → block ≡ d + w * 1_099_511_627_776 → d ≤ 512_000_000_000 → block % 1_099_511_627_776 ≡ d
+low-part block d w e l = omega arith
 
-less-all : (wet r : ℕ) → wet ≤ 8_193 * 8_193 → r < 2 ^ 64 → (r + 18_446_744_073_709_551_615) % 2 ^ 64 ≡ wet → r ≡ wet + 1
-less-all wet r w f e = omega arith
+high-part : (block d w : ℕ) → block ≡ d + w * 1_099_511_627_776 → d ≤ 512_000_000_000 → block / 1_099_511_627_776 ≡ w
+high-part block d w e l = omega arith
 
-counted : (wet b r : ℕ) → b ≤ 1 → wet ≤ 8_193 * 8_193 → r < 2 ^ 64 → (r + b * 18_446_744_073_709_551_615) % 2 ^ 64 ≡ wet → r ≡ wet + b
-counted wet b r l w f e = go (decLt 0 b)
-  where
-    go : Dec (0 < b) → r ≡ wet + b
-    go (yes m) =
-        let one : b ≡ 1 = omega (arith, m, l) in
-        less-all wet r w f (subst (λ v. (r + v * 18_446_744_073_709_551_615) % 2 ^ 64 ≡ wet) one e) ∙ ap (λ v. wet + v) (sym one)
-    go (no g) =
-        let none : b ≡ 0 = omega (arith, g) in
-        less-none wet r f (subst (λ v. (r + v * 18_446_744_073_709_551_615) % 2 ^ 64 ≡ wet) none e) ∙ sym (add-zero wet) ∙ ap (λ v. wet + v) (sym none)
+module _ (heights : List ℤ) (stage : ℤ) (size : natAbs stage ≤ limit) (i end block : ℕ) (from : i ≤ end) (few : end ≤ i + 64) (all : AllInRange end heights)
+    (is : block + (depths i heights stage + wets i heights stage * 1_099_511_627_776) ≡ depths end heights stage + wets end heights stage * 1_099_511_627_776) where
+  abbrev depth-grow : (depths i heights stage ≤ depths end heights stage) × (depths end heights stage ≤ depths i heights stage + (end - i) * 8_000_000_000)
+  depth-grow =
+      subst (λ e. (depths i heights stage ≤ depths e heights stage) × (depths e heights stage ≤ depths i heights stage + (end - i) * 8_000_000_000)) (add-sub-of-le from)
+      (depths-grow heights stage size i (end - i) (subst (λ e. AllInRange e heights) (sym (add-sub-of-le from)) all))
 
--- the stage, by its bits, read back
-abbrev stage-held : (c : tie.Start Inv-loop μ-loop) → Held (toZ w64 (ofZ w64 (c .args .stage))) (c .args .stage) limit
-stage-held c = read tt (itself (c .args .stage) limit (c .pre .3))
+  wet-grow : wets i heights stage ≤ wets end heights stage
+  wet-grow = subst (λ e. wets i heights stage ≤ wets e heights stage) (add-sub-of-le from) (wets-grow heights stage i (end - i))
 
--- ---- the numbers of a turn
+  apart : block ≡ (depths end heights stage - depths i heights stage) + (wets end heights stage - wets i heights stage) * 1_099_511_627_776
+  apart = omega (arith, is, depth-grow .0, wet-grow)
 
-module _ (c : tie.In-loop Inv-loop μ-loop) where
-  abbrev start : tie.Start Inv-loop μ-loop
-  start = c .before .before
+  few-deep : depths end heights stage - depths i heights stage ≤ 512_000_000_000
+  few-deep = omega (arith, depth-grow .1, few)
 
+  sum-grown : depths i heights stage + block % 1_099_511_627_776 ≡ depths end heights stage
+  sum-grown = omega (arith, low-part block _ _ apart few-deep, depth-grow .0)
+
+  wet-grown : wets i heights stage + block / 1_099_511_627_776 ≡ wets end heights stage
+  wet-grown = omega (arith, high-part block _ _ apart few-deep, wet-grow)
+
+-- ---- the stage, and what a turn and the rest add
+
+module _ (s : tie.Start Inv-loop μ-loop) where
   abbrev heights : List ℤ
-  heights = start .args .heights .now
+  heights = s .args .heights .now
 
-  abbrev i : ℕ
-  i = c .before .loop .i
+  abbrev stage-held : Held (toZ w64 (ofZ w64 (s .args .stage))) (s .args .stage) limit
+  stage-held = read tt (itself (s .args .stage) limit (s .pre .3))
 
   abbrev stage : ℤ
-  stage = toZ w64 (ofZ w64 (start .args .stage))
+  stage = toZ w64 (ofZ w64 (s .args .stage))
 
-  abbrev height-held : Held (toZ w64 (ofZ w64 (getD heights i (pos 0)))) (getD heights i (pos 0)) limit
-  height-held = read tt (itself (getD heights i (pos 0)) limit (start .pre .2 i (c .loop-test .taken)))
+  stage-size : natAbs stage ≤ limit
+  stage-size = small limit tt stage-held
 
-  sum-fits : c .before .loop .sum ≤ 537_001_992_000_000_000
-  sum-fits =
-      rw (c .before .loop .inv .0)
-      (sum-most i heights stage (omega (arith, start .pre .1, c .loop-test .taken)) (small limit tt (stage-held start)) (λ k l. start .pre .2 k (omega (arith, l, c .loop-test .taken))))
+  part-in : {k : ℕ} → k ≤ s .args .n → AllInRange k heights
+  part-in l i h = s .pre .2 i (omega arith)
 
-  wet-fits : c .before .loop .wet ≤ 8_193 * 8_193
-  wet-fits = rw (c .before .loop .inv .1) (omega (arith, wets-most heights i stage, start .pre .1, c .loop-test .taken))
+  sum-fits : (k : ℕ) → k ≤ s .args .n → depths k heights stage ≤ 537_001_992_000_000_000
+  sum-fits k l = sum-most k heights stage (omega (arith, s .pre .1)) stage-size (part-in l)
 
-module _ (c : tie.After-depth Inv-loop μ-loop) where
+module _ (c : tie.After-block-at Inv-loop μ-loop) where
   abbrev turn : tie.In-loop Inv-loop μ-loop
-  turn = c .before .before
+  turn = c .before
 
-  -- the depth of the turn
-  depth-is : c .depth .result ≡ depth (stage turn) (getD (heights turn) (i turn) (pos 0))
-  depth-is = c .depth .ensures ∙ ap (depth (stage turn)) (height-held turn .is)
+  abbrev begin : tie.Start Inv-loop μ-loop
+  begin = turn .before .before
 
-  depth-fits : c .depth .result ≤ 8_000_000_000
-  depth-fits =
-      rw depth-is
-      (depth-most (stage turn) (getD (heights turn) (i turn) (pos 0)) (small limit tt (stage-held (start turn))) (height-held turn .size))
+  abbrev i : ℕ
+  i = turn .before .loop .i
 
-module _ (c : tie.After-wrapping-sub-u64 Inv-loop μ-loop) where
-  abbrev masked : tie.After-wet-mask Inv-loop μ-loop
-  masked = c .before
+  sum-next : turn .before .loop .sum + c .block-at .result % 1_099_511_627_776 ≡ depths (i + 64) (heights begin) (stage begin)
+  sum-next =
+      let l = turn .before .loop in
+      subst (λ v. v + c .block-at .result % 1_099_511_627_776 ≡ depths (i + 64) (heights begin) (stage begin)) (sym (l .inv .0))
+      (sum-grown (heights begin) (stage begin) (stage-size begin) i (i + 64) (c .block-at .result) (omega arith) (omega arith) (part-in begin (turn .loop-test .taken)) (c .block-at .ensures))
 
-  abbrev summed : tie.After-depth Inv-loop μ-loop
-  summed = masked .before .before
+  wet-next : turn .before .loop .wet + c .block-at .result / 1_099_511_627_776 ≡ wets (i + 64) (heights begin) (stage begin)
+  wet-next =
+      let l = turn .before .loop in
+      subst (λ v. v + c .block-at .result / 1_099_511_627_776 ≡ wets (i + 64) (heights begin) (stage begin)) (sym (l .inv .1))
+      (wet-grown (heights begin) (stage begin) (stage-size begin) i (i + 64) (c .block-at .result) (omega arith) (omega arith) (part-in begin (turn .loop-test .taken)) (c .block-at .ensures))
 
-  abbrev height : ℤ
-  height = getD (heights (turn summed)) (i (turn summed)) (pos 0)
+module _ (c : tie.After-block-at2 Inv-loop μ-loop) where
+  abbrev ended : tie.After-loop Inv-loop μ-loop
+  ended = c .before
 
-  mask-is : masked .wet-mask .result ≡ wet (stage (turn summed)) height * 18_446_744_073_709_551_615
-  unfolding wet
-  mask-is = masked .wet-mask .ensures ∙ ap (λ z. min 1 (depth (stage (turn summed)) z) * 18_446_744_073_709_551_615) (height-held (turn summed) .is)
+  abbrev first : tie.Start Inv-loop μ-loop
+  first = ended .before .before
 
-  at-most-one : wet (stage (turn summed)) height ≤ 1
-  unfolding wet
-  at-most-one = omega arith
+  sum-last : ended .before .loop .sum + c .block-at2 .result % 1_099_511_627_776 ≡ depths (first .args .n) (heights first) (stage first)
+  sum-last =
+      let l = ended .before .loop in
+      subst (λ v. v + c .block-at2 .result % 1_099_511_627_776 ≡ depths (first .args .n) (heights first) (stage first)) (sym (l .inv .0))
+      (sum-grown (heights first) (stage first) (stage-size first) (l .i) (first .args .n) (c .block-at2 .result) (l .inv .2) (omega (arith, ended .loop-test .left)) (first .pre .2) (c .block-at2 .ensures))
 
-  count-is : c .wrapping-sub-u64 .result ≡ turn summed .before .loop .wet + wet (stage (turn summed)) height
-  count-is =
-      counted (turn summed .before .loop .wet) (wet (stage (turn summed)) height) (c .wrapping-sub-u64 .result) at-most-one (wet-fits (turn summed)) (omega arith)
-      (ap (λ m. (c .wrapping-sub-u64 .result + m) % 2 ^ 64) (sym mask-is) ∙ c .wrapping-sub-u64 .ensures)
-
--- ---- what it adds up
+  wet-last : ended .before .loop .wet + c .block-at2 .result / 1_099_511_627_776 ≡ wets (first .args .n) (heights first) (stage first)
+  wet-last =
+      let l = ended .before .loop in
+      subst (λ v. v + c .block-at2 .result / 1_099_511_627_776 ≡ wets (first .args .n) (heights first) (stage first)) (sym (l .inv .1))
+      (wet-grown (heights first) (stage first) (stage-size first) (l .i) (first .args .n) (c .block-at2 .result) (l .inv .2) (omega (arith, ended .loop-test .left)) (first .pre .2) (c .block-at2 .ensures))
 
 loop-holds : tie.Need-loop-holds Inv-loop μ-loop
 unfolding depths wets
 loop-holds c = (refl, refl, omega arith)
 
 loop-again : tie.Need-loop-again Inv-loop μ-loop
-unfolding depths wets
-loop-again c =
-    let t = turn (summed c) in (
-      ap₂ _+_ (t .before .loop .inv .0) (depth-is (summed c)) ∙ ap (λ n. depths n (heights t) (stage t)) (sym (add-one (i t))),
-      count-is c ∙ ap (λ v. v + wet (stage t) (height c)) (t .before .loop .inv .1) ∙ ap (λ n. wets n (heights t) (stage t)) (sym (add-one (i t))),
-      omega (arith, t .loop-test .taken),
-    )
+loop-again c = (sum-next c, wet-next c, turn c .loop-test .taken)
 
 returns : tie.Need-returns Inv-loop μ-loop
 returns c =
-    let l = c .before .loop in
-    let s = c .before .before in
-    let last : l .i ≡ s .args .n = omega arith in (
-      l .inv .0 ∙ ap₂ (λ n z. depths n (s .args .heights .now) z) last (stage-held s .is),
-      l .inv .1 ∙ ap₂ (λ n z. wets n (s .args .heights .now) z) last (stage-held s .is),
+    let s = first c in (
+      sum-last c ∙ ap₂ (λ n z. depths n (heights s) z) refl (stage-held s .is),
+      wet-last c ∙ ap₂ (λ n z. wets n (heights s) z) refl (stage-held s .is),
     )
 
 -- ---- what its steps ask
 
-mul-depth : tie.Need-mul-depth Inv-loop μ-loop
-mul-depth c = omega arith
+add-loop : tie.Need-add-loop Inv-loop μ-loop
+add-loop c = omega (arith, c .before .pre .1, c .loop .inv .2)
 
-shared-slice-copy-out-depth : tie.Need-shared-slice-copy-out-depth Inv-loop μ-loop
-shared-slice-copy-out-depth c = omega (arith, c .before .before .pre .0)
+add-block-at : tie.Need-add-block-at Inv-loop μ-loop
+add-block-at c = omega (arith, c .before .before .pre .1, c .loop-test .taken)
 
-depth-requires : tie.Need-depth-requires Inv-loop μ-loop
-depth-requires c κs = (small limit tt (stage-held (start (c .before))), small limit tt (height-held (c .before)))
+block-at-requires : tie.Need-block-at-requires Inv-loop μ-loop
+block-at-requires c κs =
+    let s = c .before .before in
+    (omega arith, omega arith, omega (arith, s .pre .0, c .loop-test .taken), part-in s (c .loop-test .taken), stage-size s)
 
 add-sum : tie.Need-add-sum Inv-loop μ-loop
-add-sum c = omega (arith, sum-fits (turn c), depth-fits c)
+add-sum c = omega (arith, sum-next c, sum-fits (begin c) (i c + 64) (turn c .loop-test .taken))
 
-wrapping-sub-u64-requires : tie.Need-wrapping-sub-u64-requires Inv-loop μ-loop
-wrapping-sub-u64-requires c κs = search needs
+add-wet : tie.Need-add-wet Inv-loop μ-loop
+add-wet c = omega (arith, wet-next c, wets-most (heights (begin c)) (i c + 64) (stage (begin c)), turn c .loop-test .taken, begin c .pre .1)
 
 add-i : tie.Need-add-i Inv-loop μ-loop
-add-i c = omega arith
+add-i c = omega (arith, turn c .loop-test .taken, begin c .pre .1)
 
 loop-less : tie.Need-loop-less Inv-loop μ-loop
-loop-less c = omega arith
+loop-less c = omega (arith, turn c .loop-test .taken)
 
-mul-wet-mask : tie.Need-mul-wet-mask Inv-loop μ-loop
-mul-wet-mask c = omega arith
+block-at-requires-2 : tie.Need-block-at-requires-2 Inv-loop μ-loop
+block-at-requires-2 c κs =
+    let s = c .before .before in
+    (c .before .loop .inv .2, omega (arith, c .loop-test .left), s .pre .0, s .pre .2, stage-size s)
 
-shared-slice-copy-out-wet-mask : tie.Need-shared-slice-copy-out-wet-mask Inv-loop μ-loop
-shared-slice-copy-out-wet-mask c = omega (arith, start (turn c) .pre .0, turn c .loop-test .taken)
+add-t13 : tie.Need-add-t13 Inv-loop μ-loop
+add-t13 c = omega (arith, sum-last c, sum-fits (first c) (first c .args .n) (omega arith))
 
-wet-mask-requires : tie.Need-wet-mask-requires Inv-loop μ-loop
-wet-mask-requires c κs = let t = turn (c .before) in (small limit tt (stage-held (start t)), small limit tt (height-held t))
+add-t15 : tie.Need-add-t15 Inv-loop μ-loop
+add-t15 c = omega (arith, wet-last c, wets-most (heights (first c)) (first c .args .n) (stage (first c)), first c .pre .1)
 
 pub pond-at-spec : {M : Type 1} → statement M
 pond-at-spec =
@@ -174,15 +174,15 @@ pond-at-spec =
     Inv-loop
     μ-loop
     loop-holds
-    mul-depth
-    shared-slice-copy-out-depth
-    depth-requires
+    add-loop
+    add-block-at
+    block-at-requires
     add-sum
-    mul-wet-mask
-    shared-slice-copy-out-wet-mask
-    wet-mask-requires
-    wrapping-sub-u64-requires
+    add-wet
     add-i
     loop-less
     loop-again
+    block-at-requires-2
+    add-t13
+    add-t15
     returns)
