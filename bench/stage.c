@@ -1,6 +1,7 @@
 /*
  * The reference halves the stages in range, which is plain and takes 33 passes over the raster. Beside it a row would tell two
- * searches apart and not two compilers: so here is the library's search in C, with passes that gcc takes two nodes at a time.
+ * searches apart and not two compilers: so here is the library's search in C, with passes that gcc takes two nodes at a time. It
+ * begins above the lowest height, which one pass finds together with a height out of range; the library begins a little lower.
  */
 #include "stage.h"
 

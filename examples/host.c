@@ -78,7 +78,7 @@ static const struct { const char *words, *place; } refusals[] = {
     { "x, y, z, q lists differ in length, or over 65,535 points", "0" },
     { "a lent slice is too short", "0" },
     { "position outside", "the point's or node's index, 0 for a single height or slope" },
-    { "height or control value out of range", "its index, of a storage's heights from 1; 0 for a stage" },
+    { "height or control value out of range", "its index, of a storage's or stage_for's heights from 1; 0 for a stage" },
     { "a quotient out of range in a level of the fit", "the level" },
     { "step above 8,192, or columns or rows above 8,193", "0" },
     { "record incomplete", "the byte of the record's start" },

@@ -22,7 +22,7 @@
  *    3  x, y, z, q lists differ in length, or over 65,535 points                                place 0
  *    4  a lent slice is too short                                                               place 0
  *    5  position outside                           the point's or node's index, 0 for a single height or slope
- *    6  height or control value out of range                  its index, of a storage's heights from 1; 0 for a stage
+ *    6  height or control value out of range                  its index, of a storage's or stage_for's heights from 1; 0 for a stage
  *    7  a quotient out of range in a level of the fit                                           the level
  *    8  step above 8,192, or columns or rows above 8,193                                        place 0
  *    9  record incomplete                                                          the byte of the record's start

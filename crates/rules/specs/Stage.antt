@@ -30,6 +30,7 @@ lowestOf (suc n) t = cond (t 0) 0 (suc (lowestOf n (λ k. t (suc k))))
 unfoldable pub stageAt : ℕ → ℤ
 stageAt k = pos k -ℤ pos limit
 
+-- the lowest stage; 4,000,000,001, out of range, where there is none, which no answer gives
 unfoldable pub stageFor : ℕ → ℕ → List ℤ → ℕ → ℕ → ℤ
 stageFor columns rows heights wanted s = stageAt (lowestOf 8_000_000_001 (λ k. enough columns rows heights wanted s (stageAt k)))
 

@@ -1,7 +1,6 @@
--- The search's bracket: numbers of stages below `low` sum up to less than is needed, and that of `high` doesn't, or is past the last. What a stage that is
+-- The search's bracket: numbers of stages below both `low` and `high` sum up to less than is needed, and that of `high` doesn't, or is past the last. What a stage that is
 -- tried between them tells of both ends, and why each try halves the bracket.
-use mathlib.Core.Path.{_≡_, refl, sym, ap, subst, _∙_}
-use mathlib.Core.Bool.{true, false}
+use mathlib.Core.Path.{_≡_, sym, ap, subst}
 use mathlib.Core.Logic.{_⊎_, ⊎-elim, inl, inr}
 use mathlib.Core.List.{List}
 use Prim.Native.Nat.{ℕ, zero, suc, _+_, _-_, _*_, _/_, _^_, _≤_, _<_}
@@ -10,15 +9,14 @@ use native.Mathlib.Decide.{decLt}
 use native.Mathlib.Omega.{arith}
 use borrow.Author.Tests.{le-leb, lt-leb}
 use lib.Dec.{leb}
-use lib.IntN.{ℤ, pos}
-use lib.ListN.{getD}
+use lib.IntN.{ℤ}
 use Rattle.algebra.specs.Size.{ceil-le}
 use Rattle.rules.specs.Storage.{depths}
 use Rattle.rules.specs.Stage.{lowestOf, stageAt}
 use Rattle.rules.specs.Laws.Storage.{depths-rise}
 use Rattle.rules.specs.Laws.Stage.{wets, lowestOf-found, stage-order, sum-next, wets-rise, sum-climbs}
 
--- ---- halves: of a bracket of less than 2^left numbers, tried in its middle
+-- ---- halves: of a bracket of at most 2^left numbers, tried in its middle
 
 module _ {low high : ℕ} (left : ℕ) (open-yet : low < high) (few : high - low < 2 ^ left) where
   pub left-some : 0 < left

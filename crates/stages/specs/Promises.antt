@@ -1,6 +1,6 @@
 -- What a stage for a wanted storage promises beyond its contract: it is the only lowest, what storages at it and below it answer, that 18 is given exactly where
 -- no stage stores enough, and what can be refused of the heights of an accepted raster.
-use mathlib.Core.Path.{_≡_, sym, ap, _∙_}
+use mathlib.Core.Path.{_≡_, sym, _∙_}
 use mathlib.Core.Logic.{_⊎_, ⊎-elim, inl, inr}
 use mathlib.Core.Option.{none, some}
 use mathlib.Core.List.{List}

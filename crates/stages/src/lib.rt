@@ -66,7 +66,7 @@ fn pond_at(heights: &[i64], n: usize, stage: i64) -> Pond
 }
 
 // The number of a stage at which no node is wet. It is below the first height by the "or" of all depths below that height, which is no less than any of them
-// and less than twice the greatest: plain x86-64 has no instruction for the lesser of two such numbers, and the lowest height would take twice as long.
+// and at most twice the greatest: plain x86-64 has no instruction for the lesser of two such numbers, and the lowest height would take twice as long.
 fn dry_number(heights: &[i64], n: usize) -> u64
     requires { ⌜ (n ≤ length (now heights)) × AllInRange n (now heights) × (0 < n) ⌝ }
     ensures { λ r. ⌜ (r ≤ 8_000_000_000) × ((i : ℕ) → i < n → stageAt r ≤ℤ getD (now (heights .entry)) i (pos 0)) ⌝ }
@@ -103,8 +103,8 @@ fn needed_sum(wanted: u64, side: usize) -> u64
     wanted / square * 100_000 + ceiling(wanted % square * 100_000, square)
 }
 
-// The lowest stage whose sum of depths is at least the needed one, 4,000,000,001 where none is, in at most 33 sums over the raster. Stages below `low` sum up
-// to less, and `high` doesn't. One between them is tried, and tells more than its own side: a micrometre more or less changes a sum by the nodes that are
+// The lowest stage whose sum of depths is at least the needed one, 4,000,000,001 where none is, in at most 33 sums over the raster. Stages below both `low`
+// and `high` sum up to less, and `high` doesn't or is past the last. One between them is tried, and tells more than its own side: a micrometre more or less changes a sum by the nodes that are
 // wet, of which there are `most` at most below `high`.
 fn search(heights: &[i64], n: usize, needed: u64) -> i64
     requires { ⌜ (n ≤ length (now heights)) × (n ≤ 8_193 * 8_193) × AllInRange n (now heights) × (0 < n) × (0 < needed) × (needed ≤ 537_001_992_000_000_000) ⌝ }

@@ -1,5 +1,5 @@
 -- `curlewtable::curlew_stage_for` meets its contract: what it hands out is the answer of `stages::stage_for`.
-use mathlib.Core.Path.{sym, ap, _∙_}
+use mathlib.Core.Path.{ap, _∙_}
 use borrow.Author.Needs.{needs}
 use Rattle.fields.specs.Fields.{stageFields}
 use Rattle.fields.specs.Handed.{stage-accepted}

@@ -1,6 +1,6 @@
 -- Laws of the stage for a wanted storage: it is the lowest, there is one lowest at most, and where 4,000,000,000 stores less no stage stores enough; and how
 -- code finds it: the sum of depths that stores the wanted litres, and how fast that sum rises with the stage.
-use mathlib.Core.Path.{_≡_, refl, sym, ap, ap₂, subst, _∙_}
+use mathlib.Core.Path.{_≡_, refl, ap, ap₂, subst, _∙_}
 use mathlib.Core.Bool.{Bool, true, false, cond}
 use mathlib.Core.Logic.{_↔_, _⊎_, ⊎-elim, inl, inr}
 use mathlib.Core.Option.{none, some}
@@ -11,12 +11,12 @@ use native.Mathlib.Nat.{not-suc-le-zero, add-zero, add-suc, zero-mul, add-le-add
 use native.Mathlib.Decide.{decLt}
 use native.Mathlib.Omega.{arith}
 use borrow.Author.Tests.{leb-true, leb-false, le-leb, lt-leb}
-use lib.Dec.{T, lit<, leb, leb→le, le→leb}
+use lib.Dec.{T, lit<, leb, le→leb}
 use lib.Ieee.Bits.{is-true}
 use lib.IntN.{ℤ, pos, negℤ, natAbs, _+ℤ_}
 use lib.ListN.{getD}
 use lib.Signed.{_≤ℤ_, _<ℤ_}
-use Rattle.algebra.specs.Difference.{split, whole, posPart, posPart-⊝}
+use Rattle.algebra.specs.Difference.{split, whole, posPart-⊝}
 use Rattle.algebra.specs.Size.{ceil-le, product-ceil, natAbs-range, ≤ℤ-antisym, ≤ℤ-or-<ℤ}
 use Rattle.rules.specs.Grid.{limit}
 use Rattle.rules.specs.Answers.{noStage, number, require, _then_, accepted, refused}
@@ -92,7 +92,7 @@ unfolding stageAt
 stage-order i k = simp whole (omega arith)
 
 -- a stage in range has a number, and one below it a lower number
-pub stage-number : (z : ℤ) → natAbs z ≤ limit → stageAt (natAbs (z +ℤ pos limit)) ≡ z
+stage-number : (z : ℤ) → natAbs z ≤ limit → stageAt (natAbs (z +ℤ pos limit)) ≡ z
 unfolding stageAt
 stage-number z = rw (split z) (simp whole (omega arith))
 
@@ -112,17 +112,12 @@ module _ (columns rows : ℕ) (heights : List ℤ) (wanted s : ℕ) where
   stored stage = storage columns rows heights stage s
 
   -- where every stage with a lower number stores less
-  pub lowest-number : (k : ℕ) → k ≤ 8_000_000_000 → wanted ≤ stored (stageAt k) → ((i : ℕ) → i < k → stored (stageAt i) < wanted) → Lowest (stageAt k)
+  lowest-number : (k : ℕ) → k ≤ 8_000_000_000 → wanted ≤ stored (stageAt k) → ((i : ℕ) → i < k → stored (stageAt i) < wanted) → Lowest (stageAt k)
   lowest-number k l h before = record {
     in-range = stage-in-range k .1 l;
     stores = h;
     no-lower = λ z size less. subst (λ z. stored z < wanted) (stage-number z size) (before _ (number-lower z k size less));
   }
-
-  -- so one that stores enough where the micrometre below it doesn't is the lowest
-  pub lowest-by-next : (k : ℕ) → k < 8_000_000_000 → stored (stageAt k) < wanted → wanted ≤ stored (stageAt (k + 1)) → Lowest (stageAt (k + 1))
-  lowest-by-next k l less h =
-      lowest-number (k + 1) (omega arith) h (λ i m. omega (arith, less, storage-rises columns rows heights s (stageAt i) (stageAt k) (stage-order i k .1 (omega arith))))
 
   -- "the lowest stage" is one stage
   pub lowest-unique : (a b : ℤ) → Lowest a → Lowest b → a ≡ b

@@ -7,7 +7,7 @@ use native.Mathlib.Nat.{le-trans, not-suc-le-zero}
 use native.Mathlib.Omega.{arith}
 use lib.Bits.{bitOr}
 use lib.IntN.{ℤ, pos, natAbs, _+ℤ_}
-use lib.ListN.{length, getD}
+use lib.ListN.{getD}
 use lib.Signed.{_≤ℤ_, yes-nonNeg}
 use mir.Syntax.{w64}
 use mir.Val.{toZ, ofZ}

@@ -1,9 +1,8 @@
 -- `stages::needed_sum` meets its contract: the least sum in two parts, neither of which leaves 64 bits.
-use mathlib.Core.Path.{_≡_, sym, ap, _∙_}
+use mathlib.Core.Path.{sym, ap, _∙_}
 use Prim.Native.Nat.{ℕ, _+_, _-_, _*_, _/_, _%_, _≤_, _<_}
 use native.Mathlib.Nat.{mod-lt, mul-le-mul, mul-pos}
 use native.Mathlib.Omega.{arith}
-use Rattle.rules.specs.Storage.{litres}
 use Rattle.rules.specs.Laws.Stage.{neededSum, needed-stores, needed-parts}
 use Rattle.stages.proofs.needed_sum.Statement.{statement}
 use Rattle.stages.proofs.needed_sum.Tie as tie

@@ -1,13 +1,12 @@
--- `stages::search` meets its contract. The loop's invariant: the stage is in the bracket, which has less than 2^left numbers.
+-- `stages::search` meets its contract. The loop's invariant: the stage is in the bracket, which has at most 2^left numbers.
 use mathlib.Core.Path.{_≡_, refl, sym, ap, subst, _∙_}
 use mathlib.Core.Logic.{inl}
 use mathlib.Core.List.{List}
 use Prim.Native.Nat.{ℕ, _+_, _-_, _*_, _/_, _^_, _≤_, _<_}
 use native.Mathlib.Nat.{not-suc-le-zero}
 use native.Mathlib.Omega.{arith}
-use borrow.Author.Needs.{needs}
 use lib.IntN.{ℤ, pos, _-ℤ_}
-use lib.ListN.{length, getD}
+use lib.ListN.{getD}
 use mir.Syntax.{w64}
 use mir.Val.{toZ, ofZ}
 use Rattle.algebra.specs.Size.{natAbs-range}
@@ -44,8 +43,8 @@ module _ (c : tie.After-ceiling Inv-loop μ-loop) where
   abbrev first : tie.Start Inv-loop μ-loop
   first = c .before .before
 
-  abbrev lowest : ℕ
-  lowest = c .before .dry-number .result
+  abbrev begins : ℕ
+  begins = c .before .dry-number .result
 
   -- every stage in range is in it
   whole-range : Bracket (first .args .heights .now) (first .args .n) (first .args .needed) 0 8_000_000_001 (first .args .n)
@@ -56,23 +55,23 @@ module _ (c : tie.After-ceiling Inv-loop μ-loop) where
     last = omega arith;
   }
 
-  -- and at the lowest height no node is wet
-  none-wet : 0 ≡ depths (first .args .n) (first .args .heights .now) (stageAt lowest)
-  none-wet = sym (sum-none (first .args .heights .now) (first .args .n) lowest (c .before .dry-number .ensures .1))
+  -- and at the stage that it begins with no node is wet
+  none-wet : 0 ≡ depths (first .args .n) (first .args .heights .now) (stageAt begins)
+  none-wet = sym (sum-none (first .args .heights .now) (first .args .n) begins (c .before .dry-number .ensures .1))
 
   first-is : c .ceiling .result ≡ (first .args .needed - 0 + (first .args .n - 1)) / first .args .n
   first-is = let none-less : first .args .needed ≡ first .args .needed - 0 = omega arith in c .ceiling .ensures ∙ ap (λ v. (v + (first .args .n - 1)) / first .args .n) none-less
 
   first-most : c .ceiling .result ≤ first .args .needed
-  first-most = omega (arith, first-is, risen-most whole-range lowest 0 none-wet (first .pre .4) (first .pre .3))
+  first-most = omega (arith, first-is, risen-most whole-range begins 0 none-wet (first .pre .4) (first .pre .3))
 
 loop-holds : tie.Need-loop-holds Inv-loop μ-loop
 loop-holds c =
     let f = first c in (
       subst
-          (λ v. Bracket (f .args .heights .now) (f .args .n) (f .args .needed) (lowest c + v) 8_000_000_001 (f .args .n))
+          (λ v. Bracket (f .args .heights .now) (f .args .n) (f .args .needed) (begins c + v) 8_000_000_001 (f .args .n))
           (sym (first-is c))
-          (raised (whole-range c) (lowest c) 0 (none-wet c) (f .pre .4) (f .pre .3)),
+          (raised (whole-range c) (begins c) 0 (none-wet c) (f .pre .4) (f .pre .3)),
       omega arith,
       f .pre .3,
       f .pre .1,

@@ -1,5 +1,5 @@
 -- `stages::stage_for` meets its contract: the checks go in their order, and the number that is found last decides 18.
-use mathlib.Core.Path.{_≡_, sym, ap, subst, _∙_}
+use mathlib.Core.Path.{_≡_, sym, ap, _∙_}
 use mathlib.Core.Option.{none, some}
 use mathlib.Core.List.{List}
 use Prim.Native.Nat.{ℕ, _+_, _*_, _≤_, _<_}
@@ -7,7 +7,7 @@ use native.Mathlib.Decide.{decLt}
 use native.Mathlib.Omega.{arith}
 use borrow.Author.Needs.{needs}
 use lib.Dec.{leb}
-use lib.IntN.{ℤ, pos, _-ℤ_}
+use lib.IntN.{ℤ, pos}
 use lib.ListN.{length}
 use mir.Syntax.{w64}
 use mir.Val.{toZ, ofZ}
@@ -15,7 +15,7 @@ use Rattle.algebra.specs.Difference.{whole}
 use Rattle.rules.specs.Answers.{Refusal, range, noStage, Answer, accepted, refused}
 use Rattle.rules.specs.Storage.{depths, litres, storage, pondCheck, heightsCheck}
 use Rattle.rules.specs.Stage.{LowestStage, enough, lowestOf, stageAt, stageFor, stageForCheck, stageForAnswer}
-use Rattle.rules.specs.Laws.Checks.{then-none, then-some, none-answer, some-answer, AllInRange}
+use Rattle.rules.specs.Laws.Checks.{then-none, then-some, none-answer, some-answer}
 use Rattle.rules.specs.Laws.Storage.{pond-passed, heights-passed, place-most}
 use Rattle.rules.specs.Laws.Stage.{lowestOf-most, answer-lowest, reach-refused, reach-passed}
 use Rattle.answers.specs.Cause.{found}
