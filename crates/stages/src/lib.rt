@@ -103,9 +103,9 @@ fn needed_sum(wanted: u64, side: usize) -> u64
     wanted / square * 100_000 + ceiling(wanted % square * 100_000, square)
 }
 
-// The lowest stage whose sum of depths is at least the needed one, 4,000,000,001 where none is, in at most 33 sums over the raster. Stages below both `low`
-// and `high` sum up to less, and `high` doesn't or is past the last. One between them is tried, and tells more than its own side: a micrometre more or less changes a sum by the nodes that are
-// wet, of which there are `most` at most below `high`.
+// The lowest stage whose sum of depths is at least the needed one, 4,000,000,001 where none is, in at most 33 sums over the raster: `left` counts them down.
+// Stages below both `low` and `high` sum up to less, and `high` doesn't or is past the last. One between them is tried, and tells more than its own side: a
+// micrometre more or less changes a sum by the nodes that are wet, of which there are `most` at most below `high`.
 fn search(heights: &[i64], n: usize, needed: u64) -> i64
     requires { ⌜ (n ≤ length (now heights)) × (n ≤ 8_193 * 8_193) × AllInRange n (now heights) × (0 < n) × (0 < needed) × (needed ≤ 537_001_992_000_000_000) ⌝ }
     ensures { λ r. ⌜ r ≡ stageAt (lowestOf 8_000_000_001 (λ k. leb needed (depths n (now (heights .entry)) (stageAt k)))) ⌝ }
