@@ -7,6 +7,6 @@ use Rattle.nodes.specs.Inside.{NodesInside}
 
 -- heights of the lattice can be read at every node, and the stage is in range
 pub record Inspectable (m n e : ℕ) (lattice : List ℤ) (g : Nodes) (stage : ℤ) : Type 0 where
-  pub ground : Grounded m n e lattice
+  pub grounded : Grounded m n e lattice
   pub inside : NodesInside (2 ^ e * m) (2 ^ e * n) g
   pub stage_size : nat_abs stage ≤ limit

@@ -72,6 +72,6 @@ pub record Grounded (m n e : ℕ) (lattice : List ℤ) : Type 0 where
 
 -- the same with a position in it
 pub record Readable (m n e : ℕ) (lattice : List ℤ) (x y : ℕ) : Type 0 where
-  pub ground : Grounded m n e lattice
+  pub grounded : Grounded m n e lattice
   pub x_inside : x ≤ 2 ^ e * m
   pub y_inside : y ≤ 2 ^ e * n

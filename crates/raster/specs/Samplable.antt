@@ -6,6 +6,6 @@ use Rattle.nodes.specs.Inside.{NodesInside}
 
 -- heights of the lattice can be read at every node, and there is room for them
 pub record Samplable (m n e : ℕ) (lattice : List ℤ) (g : calls.Nodes) (room : ℕ) : Type 0 where
-  pub ground : Grounded m n e lattice
+  pub grounded : Grounded m n e lattice
   pub inside : NodesInside (2 ^ e * m) (2 ^ e * n) g
   pub fits : g.across * g.down ≤ room

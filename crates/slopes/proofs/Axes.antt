@@ -55,13 +55,13 @@ module _ {m n e : ℕ} {l : List ℤ} {x y : ℕ} (r : Readable m n e l x y) {bx
 
   pub slopable_x : Slopable l q 1 (m + 3) by sx e
   slopable_x = record {
-    line = λ k h. column_asked r.ground (on_y r) up (cx + k) (q + k * 1) (omega (arith, column_below)) (omega arith);
+    line = λ k h. column_asked r.grounded (on_y r) up (cx + k) (q + k * 1) (omega (arith, column_below)) (omega arith);
     weight_most = slope_weight (on_x r) fall-x;
   }
 
   pub slopable_y : Slopable l q (m + 3) 1 bx sy e
   slopable_y = record {
-    line = λ k h. row_asked r.ground (on_x r) across (cy + k) (q + k * (m + 3)) (omega (arith, row_below)) (omega arith);
+    line = λ k h. row_asked r.grounded (on_x r) across (cy + k) (q + k * (m + 3)) (omega (arith, row_below)) (omega arith);
     weight_most = slope_weight (on_y r) fall-y;
   }
 

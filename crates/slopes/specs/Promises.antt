@@ -35,14 +35,14 @@ module _ (m n U : ℕ) (l : List ℤ) (x y : ℕ) (r : Sloped) (s : Slopes) (rul
 
   -- where every control value is the same
   module _ (c : ℤ) (same : (i : ℕ) → i < controls m n → get_or l i (pos 0) ≡ c) where
-    ground : Same m n (control m l) (λ s t. c)
+    grounded : Same m n (control m l) (λ s t. c)
     unfolding control
-    ground = record { same = λ s t h k. same (t * (m + 3) + s) (place_below m n s t h k) }
+    grounded = record { same = λ s t h k. same (t * (m + 3) + s) (place_below m n s t h k) }
 
     pub level_ground : (s.along_x ≡ pos 0) × (s.along_y ≡ pos 0)
     level_ground = (
-      sym (ap (λ (b : Slopes). b.along_x) slopes_are) ∙ level_slope_x U m n x y on (control m l) c ground,
-      sym (ap (λ (b : Slopes). b.along_y) slopes_are) ∙ level_slope_y U m n x y on (control m l) c ground,
+      sym (ap (λ (b : Slopes). b.along_x) slopes_are) ∙ level_slope_x U m n x y on (control m l) c grounded,
+      sym (ap (λ (b : Slopes). b.along_y) slopes_are) ∙ level_slope_y U m n x y on (control m l) c grounded,
     )
 
 pub negated_ground : (m n U : ℕ) (l : List ℤ) (x y : ℕ) (r r' : Sloped) → told r ≡ slope_answer m n U l x y → told r' ≡ slope_answer m n U (negated l) x y

@@ -85,7 +85,7 @@ module _ {s : Strip} {l : List ℤ} {cells : List ℕ} {taps : List ℤ} (t : Ta
   q = r * (s.m + 3) + get_or cells i 0
 
   pub asked : Weighable l q 1 (taps_at taps i) s.e
-  asked = row_asked t.ground (on_column t.columns i k) (t.tapped i k) r q h refl
+  asked = row_asked t.grounded (on_column t.columns i k) (t.tapped i k) r q h refl
 
   module _ {b : Basis} (is : b ≡ basis_back (taps_at taps i)) where
     same : b ≡ taps_at taps i

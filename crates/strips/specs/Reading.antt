@@ -79,7 +79,7 @@ module _ {s : Strip} (c : StripInside s) {p : Spot} {y : ℕ} (found : Located p
 
   pub ring_in_range : {l : List ℤ} {from to : ℕ} {ring : List ℤ} → Grounded s.m s.n s.e l → Ringed s l from to (p.cell + 4) (p.cell + 4) ring
       → (i : ℕ) → from ≤ i → i < to → to ≤ s.w → RingInRange p.cell i ring
-  ring_in_range ground has i m n w r a b = rw (has.sum r i (omega arith) b m n) (row_within ground (c.inside i (omega arith)) r (omega (arith, below)))
+  ring_in_range grounded has i m n w r a b = rw (has.sum r i (omega arith) b m n) (row_within grounded (c.inside i (omega arith)) r (omega (arith, below)))
 
 module _ {s : Strip} (c : StripInside s) (j : ℕ) (inside : s.y0 + s.step * j ≤ 2 ^ s.e * s.n) where
   pub row_fits : s.y0 + s.step * j ≤ 512 * 512

@@ -49,7 +49,7 @@ Taps s w cells taps = (i : ℕ) → i < w → Based (2 ^ s.e) s.m (column_x s i)
 -- all of them have, and the lattice can be read there
 pub record Tapped (s : Strip) (lattice : List ℤ) (cells : List ℕ) (taps : List ℤ) : Type 0 where
   pub columns : StripInside s
-  pub ground : Grounded s.m s.n s.e lattice
+  pub grounded : Grounded s.m s.n s.e lattice
   pub tapped : Taps s s.w cells taps
 
 -- ---- the ring

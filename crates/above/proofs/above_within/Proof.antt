@@ -45,7 +45,7 @@ strip-above-requires c κs =
     let most = p.before.most-under in
     let l = t.loop-test.true in (
       above_strip s.pre.1 (some_rows p) is l,
-      strip_ground is s.pre.1.ground,
+      strip_ground is s.pre.1.grounded,
       rows_inside s.pre.1 (some_rows p) is l,
       rw is s.pre.0,
       omega (arith, strip_width is, l),

@@ -225,7 +225,7 @@ returns-7 c =
     let none_out = sym k.positions.ensures ∙ ap check c.enum-told5.given.1 in
     rw (first p).enum_told.given.1
     (tells_exponent (by_nodes _ _ _ _ _ _ (grid_none (first p)) (sizes_none p) long (staged t) (lattice_none y) none_out) b.0
-    (record { ground = record { grid = b.1; long = long; ranged = lattice_passed _ _ _ (lattice_none y) }; inside = rw b.0 at (nodes_inside _ _ _ none_out); stage_size = stage_passed _ (staged t) }))
+    (record { grounded = record { grid = b.1; long = long; ranged = lattice_passed _ _ _ (lattice_none y) }; inside = rw b.0 at (nodes_inside _ _ _ none_out); stage_size = stage_passed _ (staged t) }))
 
 pub inspectable_spec : {M : Type 1} → statement M
 inspectable_spec =

@@ -121,7 +121,7 @@ band-above-requires c κs =
     let p = (first (spot d)).pre in
     let e = (ended d).band-end.ensures in
     let to-most = d.due-columns.ensures.1 in
-    (p.0.columns, rows_before e.1 p.1, e.2, to-most, λ i m n. ring_in_range p.0.columns (spot d).locate.ensures p.0.ground c.before.refill.ensures.3 i m n to-most)
+    (p.0.columns, rows_before e.1 p.1, e.2, to-most, λ i m n. ring_in_range p.0.columns (spot d).locate.ensures p.0.grounded c.before.refill.ensures.3 i m n to-most)
 
 -- ---- what it finds
 

@@ -16,7 +16,7 @@ bands-above-requires c κs =
     let p = s.requires in
     let stage = plain s.args.stage s.ranges.stage.sfits in
     let most = plain s.args.most s.ranges.most.sfits in
-    (record { columns = p.0; ground = p.1; tapped = d.column-taps.ensures }, p.2, p.3, p.4, refl, threshold_of stage most p.5)
+    (record { columns = p.0; grounded = p.1; tapped = d.column-taps.ensures }, p.2, p.3, p.4, refl, threshold_of stage most p.5)
 
 returns : tie.Need-returns
 returns c = let s = c.before.before.before.before.before.before.before in rw (plain s.args.stage s.ranges.stage.sfits) at c.bands-above.ensures

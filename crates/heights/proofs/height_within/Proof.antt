@@ -44,7 +44,7 @@ module _ (c : tie.After-basis-of2) where
   stored = last_place start.pre across up
 
   asked : (t q : ℕ) → t < cy + 4 → q ≡ t * w + cx → Weighable start.args.lattice.now q 1 bx start.args.e
-  asked t q h is = row_asked start.pre.ground (on_x start.pre) across t q (omega (arith, placed_below (on_y start.pre) up)) is
+  asked t q h is = row_asked start.pre.grounded (on_x start.pre) across t q (omega (arith, placed_below (on_y start.pre) up)) is
 
   -- the height of row t
   row : ℕ → ℤ
@@ -52,7 +52,7 @@ module _ (c : tie.After-basis-of2) where
 
   row_ranged : (t : ℕ) → cy ≤ t → t < cy + 4 → nat_abs (row t) ≤ 4_000_000_000
   unfolding row
-  row_ranged t h k = row_within start.pre.ground start.pre.x_inside t (omega (arith, placed_below (on_y start.pre) up))
+  row_ranged t h k = row_within start.pre.grounded start.pre.x_inside t (omega (arith, placed_below (on_y start.pre) up))
 
   -- what `line_height` returned for row t
   row_told : (t q : ℕ) {z : ℤ} → q ≡ t * w + cx → z ≡ line_height start.args.lattice.now q 1 bx (2 ^ start.args.e) → z ≡ row t

@@ -118,7 +118,7 @@ returns-5 c =
     let s = stored_passed _ _ _ (stored_none p) in
     rw (first p).enum_told.given.1
     (tells_exponent (by_none _ _ _ _ _ _ (grid_none (first p)) (stored_none p) c.before.if1.false c.if2.false) b.0
-    (record { ground = record { grid = b.1; long = s.0; ranged = s.1 }; x_inside = rw b.0 at c.before.if1.false; y_inside = rw b.0 at c.if2.false }))
+    (record { grounded = record { grid = b.1; long = s.0; ranged = s.1 }; x_inside = rw b.0 at c.before.if1.false; y_inside = rw b.0 at c.if2.false }))
 
 pub readable_spec : {M : Type 1} → statement M
 readable_spec =

@@ -58,7 +58,7 @@ module _ (c : tie.In-loop invariant-loop decreases-loop) where
       let p = start.pre in
       rw part_is
       (record {
-        ground = record {
+        grounded = record {
           grid = p.grid;
           long = rw (length_area start.args.level (controls start.args.m start.args.n) whole (omega arith)) (omega arith);
           ranged = p.level_ranged;

@@ -33,7 +33,7 @@ whole-strip-requires c κs =
     let s = t.before.before.before.requires in
     let l = t.loop-test.true in
     let is = d.strip-from.ensures in
-    (raster_strip s (omega arith) is l, strip_ground is s.ground, strip_room s (omega arith) is l t.before.loop.invariant.1.same_length)
+    (raster_strip s (omega arith) is l, strip_ground is s.grounded, strip_room s (omega arith) is l t.before.loop.invariant.1.same_length)
 
 add-column : tie.Need-overflow-add-column invariant-loop decreases-loop
 add-column c =

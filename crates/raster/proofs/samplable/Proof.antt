@@ -191,7 +191,7 @@ returns-6 c d h =
     let none_out = sym k.positions.ensures ∙ ap check c.enum-told5.given.1 in
     rw (first p).enum_told.given.1
     (tells_exponent (by_nodes _ _ _ _ _ d h (grid_none (first p)) (sizes_none p) y.before.before.before.if1.false (stored_none y) none_out) b.0
-    (record { ground = record { grid = b.1; long = s.0; ranged = s.1 }; inside = rw b.0 at (nodes_inside _ _ _ none_out); fits = y.before.before.before.if1.false }))
+    (record { grounded = record { grid = b.1; long = s.0; ranged = s.1 }; inside = rw b.0 at (nodes_inside _ _ _ none_out); fits = y.before.before.before.if1.false }))
 
 pub samplable_spec : {M : Type 1} → statement M
 samplable_spec =

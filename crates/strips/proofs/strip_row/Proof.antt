@@ -100,7 +100,7 @@ node-row-requires c κs =
       row_weight g _ (row d).inside (found d) d.basis-of.ensures,
       g.width,
       simp (length-take, length-drop) (omega (arith, (row d).ranges)),
-      λ i h. ring_in_range g (found d) (row d).strip.ground (has d) i (omega arith) h (omega arith),
+      λ i h. ring_in_range g (found d) (row d).strip.grounded (has d) i (omega arith) h (omega arith),
     )
 
 same_length : tie.Need-same-length
