@@ -1,1 +1,2 @@
 // Integer algebra, in specs/ alone: this crate has no code.
+#![tactic(auto)]

@@ -1,6 +1,7 @@
 // Control values at or below a stage. Where all sixteen of a cell are, no height in the cell is above it, and its nodes need not be worked out. Of each lattice
 // row the first and the last value above the stage are found, once for all the cells that read it: what lies before the first of four rows and behind the
 // last is at or below the stage.
+#![tactic(auto)]
 ghost use Rattle.std.specs.Prelude.{◌≡◌, ℕ, ◌+◌, ◌*◌, ◌≤◌, ◌<◌, length, get_or};
 ghost use Rattle.below.specs.Below.{ValuesBelow, RowBelow, RowsBelow, Rising, Apart};
 

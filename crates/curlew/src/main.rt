@@ -1,6 +1,7 @@
 // The program: a point file on standard input, the lattice file or one line "refused N P" on standard output.
 // What it writes is the answer of respond::respond, which is proved; this file only reads and writes.
 // A read that fails counts as the end of the input, and a write that fails ends the program.
+#![tactic(auto)]
 use libc::{STDIN_FILENO, STDOUT_FILENO};
 
 fn main() {

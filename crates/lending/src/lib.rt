@@ -1,4 +1,5 @@
 // What the caller of a fit lends: whether there is room in it, and the results that are put there.
+#![tactic(auto)]
 ghost use Rattle.std.specs.Prelude.{◌≡◌, ◌+◌, ◌*◌, ◌%◌, ◌≤◌, nat_abs, length};
 ghost use Rattle.algebra.specs.Table.{over, area};
 ghost use Rattle.rules.specs.Grid.{limit};

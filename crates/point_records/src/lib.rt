@@ -1,4 +1,5 @@
 // The records of a point file, judged, and what its head says.
+#![tactic(auto)]
 ghost use Rattle.std.specs.Prelude.{◌≡◌, ◌+◌, ◌^◌, ◌≤◌, ◌<◌, length};
 ghost use Rattle.rules.specs.Answers.{answer, first_of};
 ghost use Rattle.rules.specs.Bytes.{record_check};

@@ -1,4 +1,5 @@
 // The records of both files: their marks, and the check that each begins with.
+#![tactic(auto)]
 ghost use Rattle.std.specs.Prelude.{◌≡◌, ◌+◌, ◌≤◌, ◌<◌, ◌^◌, length, take, drop, ◌∷◌, []};
 ghost use Rattle.algebra.specs.Table.{laid};
 ghost use Rattle.rules.specs.Bytes.{same, record_check};

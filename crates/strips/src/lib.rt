@@ -1,5 +1,6 @@
 // The nodes of a raster, a strip of at most 64 columns at a time. A strip keeps the rounded x sums of the last four lattice rows in a ring, so that a
 // lattice row is summed once for all the raster rows that use it, and a node costs one rounding.
+#![tactic(auto)]
 ghost use Rattle.std.specs.Prelude.{◌≡◌, ℕ, ◌+◌, ◌-◌, ◌*◌, ◌%◌, ◌≤◌, ◌<◌, pos, nat_abs, length, get_or};
 ghost use Rattle.algebra.specs.Table.{tabulate, over, laid};
 ghost use Rattle.basis.specs.Weighing.{Grounded, weight_size};

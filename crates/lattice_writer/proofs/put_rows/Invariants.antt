@@ -1,0 +1,13 @@
+-- `lattice_writer::put_rows` meets its contract. The loop's invariant: the records of the rows passed are laid from byte 6 on.
+use mathlib.Core.Path.{◌≡◌}
+use Prim.Native.Nat.{◌+◌, ◌-◌, ◌≤◌}
+use lib.ListN.{length}
+use Rattle.algebra.specs.Table.{joined, laid}
+use Rattle.rules.specs.LatticeFile.{row_record}
+use Rattle.lattice_writer.proofs.put_rows.Given as goal
+
+abbrev pub invariant-loop : goal.invariant-loop
+invariant-loop l = (l.r ≤ l.n + 3) × (length l.output ≡ length l.initial.output) × (l.output ≡ laid 6 (joined l.r (row_record l.m l.lattice)) l.initial.output)
+
+abbrev pub decreases-loop : goal.decreases-loop
+decreases-loop l = l.n + 3 - l.r
