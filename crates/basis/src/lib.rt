@@ -45,8 +45,8 @@ pub fn basis_of(unit: usize, a: usize) -> Basis
 
 // The sum of four weights times four values in range.
 pub fn weighed(b: Basis, p0: i64, p1: i64, p2: i64, p3: i64) -> i64
-    requires b_bound { weight_size b ≤ 805_306_368 }
-    requires p0_bound { (nat_abs p0 ≤ 4_000_000_000) × (nat_abs p1 ≤ 4_000_000_000) × (nat_abs p2 ≤ 4_000_000_000) × (nat_abs p3 ≤ 4_000_000_000) }
+    requires weights_bounded { weight_size b ≤ 805_306_368 }
+    requires values_in_range { (nat_abs p0 ≤ 4_000_000_000) × (nat_abs p1 ≤ 4_000_000_000) × (nat_abs p2 ≤ 4_000_000_000) × (nat_abs p3 ≤ 4_000_000_000) }
     ensures { (result ≡ rule.weighted (numerators b) (four p0 p1 p2 p3) 0) × (nat_abs result ≤ 3_221_225_472_000_000_000) }
 {
     b.b0 * p0 + b.b1 * p1 + b.b2 * p2 + b.b3 * p3

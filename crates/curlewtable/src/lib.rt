@@ -31,7 +31,7 @@ pub extern "C" fn curlew_fit(
     whole: &mut [i64],
     floats: &mut [f64],
 ) -> CellsAnswer
-    ensures floats_after { handed result (calls.lent lattice.new residual.new whole.new floats.new) ≡ in_fields cells_fields (calls.fit_call (shape m0 n0 h) (survey x.now y.now z.now q.now) (calls.lent lattice.old residual.old whole.old floats.old)) }
+    ensures answer { handed result (calls.lent lattice.new residual.new whole.new floats.new) ≡ in_fields cells_fields (calls.fit_call (shape m0 n0 h) (survey x.now y.now z.now q.now) (calls.lent lattice.old residual.old whole.old floats.old)) }
     ensures close_everywhere { result.number ≡ 0 → CloseEverywhere (shape m0 n0 h) (survey x.now y.now z.now q.now) (record { m = result.m; n = result.n }) lattice.new }
 {
     fields::cells(fit::fit(m0, n0, h, x, y, z, q, lattice, residual, whole, floats))
@@ -122,8 +122,8 @@ pub extern "C" fn curlew_storage_at(
     stage: i64,
     side: usize,
 ) -> StorageAnswer
-    ensures value { result ≡ storage_fields (pond.storage_answer columns rows heights.now stage side) }
-    ensures value_2 { Sampled columns rows heights.now → result ≡ storage_fields (sampled_answer columns rows heights.now stage side) }
+    ensures answer { result ≡ storage_fields (pond.storage_answer columns rows heights.now stage side) }
+    ensures sampled { Sampled columns rows heights.now → result ≡ storage_fields (sampled_answer columns rows heights.now stage side) }
 {
     fields::storage(storage::storage(columns, rows, heights, stage, side))
 }
@@ -137,7 +137,7 @@ pub extern "C" fn curlew_stage_for(
     wanted: u64,
     side: usize,
 ) -> StageAnswer
-    ensures value { result ≡ stage_fields (stage_for_answer columns rows heights.now wanted side) }
+    ensures answer { result ≡ stage_fields (stage_for_answer columns rows heights.now wanted side) }
     ensures lowest_stage { result.number ≡ 0 → LowestStage columns rows heights.now wanted side result.stage }
 {
     fields::stage(stages::stage_for(columns, rows, heights, wanted, side))

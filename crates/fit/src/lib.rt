@@ -38,8 +38,8 @@ pub fn fit(
     whole: &mut [i64],
     floats: &mut [f64],
 ) -> CellsTold
-    ensures floats_after { outcome (told result) (lent lattice.new residual.new whole.new floats.new) ≡ fit_call (shape m0 n0 h) (survey xs.now ys.now zs.now qs.now) (lent lattice.old residual.old whole.old floats.old) }
-    ensures demand3 { Demand3 (shape m0 n0 h) (survey xs.now ys.now zs.now qs.now) (told result) lattice.new }
+    ensures answer { outcome (told result) (lent lattice.new residual.new whole.new floats.new) ≡ fit_call (shape m0 n0 h) (survey xs.now ys.now zs.now qs.now) (lent lattice.old residual.old whole.old floats.old) }
+    ensures stated_distance { Demand3 (shape m0 n0 h) (survey xs.now ys.now zs.now qs.now) (told result) lattice.new }
 {
     if let Verdict::Refused(r) = survey::head(m0, n0, h, xs, ys, zs, qs) {
         return CellsTold::Refused(r);

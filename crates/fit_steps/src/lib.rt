@@ -10,8 +10,8 @@ ghost use Rattle.fit_steps.specs.Steps.{summed, Written};
 
 // The refinement of the m by n lattice at from, written at to, apart from it.
 pub fn refine_at(m: usize, n: usize, whole: &mut [i64], from: usize, to: usize)
-    requires m_nonzero { (0 < m) × (m ≤ 256) × (0 < n) × (n ≤ 256) }
-    requires n_in_bounds { (from + controls m n ≤ length whole.old) × (to + controls (2 * m) (2 * n) ≤ length whole.old) × Apart from (controls m n) to (controls (2 * m) (2 * n)) × AllInRange (controls m n) (area from (controls m n) whole.old) }
+    requires cells { (0 < m) × (m ≤ 256) × (0 < n) × (n ≤ 256) }
+    requires areas { (from + controls m n ≤ length whole.old) × (to + controls (2 * m) (2 * n) ≤ length whole.old) × Apart from (controls m n) to (controls (2 * m) (2 * n)) × AllInRange (controls m n) (area from (controls m n) whole.old) }
     ensures { whole.new ≡ laid to (store (2 * m) (2 * n) (refined (control m (area from (controls m n) whole.old)))) whole.old }
 {
     let end = from + (m + 3) * (n + 3);
@@ -30,8 +30,8 @@ pub fn refine_at(m: usize, n: usize, whole: &mut [i64], from: usize, to: usize)
 
 // Level lattice k added to what stands at to: false where a sum leaves its range.
 pub fn add(count: usize, whole: &mut [i64], level: usize, to: usize) -> bool
-    requires count_in_bounds { (level + count ≤ length whole.old) × (to + count ≤ level) }
-    requires all_in_range { AllInRange count (area level count whole.old) × AllInRange count (area to count whole.old) }
+    requires areas { (level + count ≤ length whole.old) × (to + count ≤ level) }
+    requires values_in_range { AllInRange count (area level count whole.old) × AllInRange count (area to count whole.old) }
     ensures { Written result to count (summed count (area to count whole.old) (area level count whole.old)) whole.old whole.new }
 {
     let mut q = 0;

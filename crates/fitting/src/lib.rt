@@ -29,7 +29,7 @@ pub fn run(
     floats: &mut [f64],
 ) -> CellsTold
     requires levelable { Levelable (shape m0 n0 h) (from_base (survey xs.now ys.now zs.now qs.now)) most (length whole.old) (length floats.old) × (most ≤ length lattice.old) × (length xs.now ≤ length residual.old) }
-    requires base_value { (base ≡ base_of zs.now) × AllInRange (length zs.now) zs.now }
+    requires based { (base ≡ base_of zs.now) × AllInRange (length zs.now) zs.now }
     ensures { outcome (told result) (cleared (shape m0 n0 h) (length xs.now) (lent lattice.new residual.new whole.new floats.new)) ≡ fit_end (shape m0 n0 h) (survey xs.now ys.now zs.now qs.now) (lent lattice.old residual.old whole.old floats.old) (in_levels_check (shape m0 n0 h) (survey xs.now ys.now zs.now qs.now)) }
 {
     let residuals = 3 * most;

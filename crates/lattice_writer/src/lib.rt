@@ -51,7 +51,7 @@ fn put_rows(lattice: &[i64], m: usize, n: usize, output: &mut [u8])
 // The file of a lattice, into an output that is long enough.
 pub fn put_lattice(m: usize, n: usize, lattice: &[i64], output: &mut [u8]) -> usize
     requires { (m ≤ 512) × (n ≤ 512) × (controls m n ≤ length lattice.now) × (rule.lattice_file_length m n ≤ length output.old) }
-    ensures value { result ≡ rule.lattice_file_length m n }
+    ensures bytes_written { result ≡ rule.lattice_file_length m n }
     ensures output_after { output.new ≡ over (rule.lattice_file m n lattice.now) output.old }
 {
     records::put_mark(output, 0, L, H);

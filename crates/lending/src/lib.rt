@@ -47,8 +47,8 @@ pub fn deliver(
     lattice: &mut [i64],
     residual: &mut [i64],
 )
-    requires most_bound { (most ≤ 265_225) × (3 * most + p ≤ length whole.now) × (most ≤ length lattice.old) × (p ≤ length residual.old) }
-    requires all_in_range { AllInRange most (area (h % 2 * most) most whole.now) × (nat_abs base ≤ limit) }
+    requires rooms { (most ≤ 265_225) × (3 * most + p ≤ length whole.now) × (most ≤ length lattice.old) × (p ≤ length residual.old) }
+    requires values_in_range { AllInRange most (area (h % 2 * most) most whole.now) × (nat_abs base ≤ limit) }
     ensures lattice_after { lattice.new ≡ over (shifted base (area (h % 2 * most) most whole.now)) lattice.old }
     ensures residual_after { residual.new ≡ over (area (3 * most) p whole.now) residual.old }
 {

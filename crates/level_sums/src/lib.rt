@@ -52,7 +52,7 @@ pub fn gather(
     sums: &mut [f64],
 )
     requires fittable { Fittable m n e (survey xs.now ys.now zs.now qs.now) }
-    requires n_in_bounds { 2 * controls m n ≤ length sums.old }
+    requires room { 2 * controls m n ≤ length sums.old }
     ensures { sums.new ≡ over (sum_table (2 ^ e) m n (points_of (survey xs.now ys.now zs.now qs.now))) sums.old }
 {
     let count = (m + 3) * (n + 3);

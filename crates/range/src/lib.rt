@@ -41,9 +41,9 @@ fn range_bits(z: i64) -> u64
 // Whether the values of a block are in range, where all before it are. The loop tests no value, so that it is fast: "or" keeps the top bit of
 // every one.
 fn all_in_range(values: &[i64], start: usize, end: usize) -> bool
-    requires fact_1 { start ≤ end }
-    requires fact_2 { end ≤ length values.now }
-    requires fact_3 { NoneOut start values.now }
+    requires ordered { start ≤ end }
+    requires inside { end ≤ length values.now }
+    requires none_before { NoneOut start values.now }
     ensures { (r : rule.Refusal) → rule.range_check end values.now (λ i. r) ≡ ok_check result r }
 {
     let mut bits = 0u64;
@@ -65,11 +65,11 @@ fn block_start(i: usize, n: usize) -> usize
 
 // How many of n values stand before the first block of 64 that has one out of range; all n if no block has.
 fn passed(values: &[i64], n: usize) -> usize
-    requires fact_1 { 64 ≤ n }
-    requires fact_2 { n ≤ length values.now }
-    ensures fact_1 { result ≤ n }
-    ensures fact_2 { NoneOut result values.now }
-    ensures fact_3 { (result < n → SomeOut n values.now) }
+    requires a_block { 64 ≤ n }
+    requires inside { n ≤ length values.now }
+    ensures within { result ≤ n }
+    ensures none_before { NoneOut result values.now }
+    ensures some_behind { (result < n → SomeOut n values.now) }
 {
     let mut i = 0;
     while i < n {
@@ -84,8 +84,8 @@ fn passed(values: &[i64], n: usize) -> usize
 
 // The first value out of range, where there is one and none before `start`: value by value, with no end to test for.
 fn search(values: &[i64], start: usize) -> usize
-    requires fact_1 { NoneOut start values.now }
-    requires fact_2 { SomeOut (length values.now) values.now }
+    requires none_before { NoneOut start values.now }
+    requires some_out { SomeOut (length values.now) values.now }
     ensures { FirstOut result values.now }
 {
     let mut i = start;

@@ -11,7 +11,7 @@ use answers::Refusal;
 // A number in decimal from byte at on; answers the byte after it.
 fn put_decimal(output: &mut [u8], at: usize, v: usize) -> usize
     requires { at + length (decimal v) ≤ length output.old }
-    ensures value { result ≡ at + length (decimal v) }
+    ensures end_place { result ≡ at + length (decimal v) }
     ensures output_after { output.new ≡ laid at (decimal v) output.old }
 {
     if v < 10 {

@@ -81,7 +81,7 @@ pub struct Response {
 
 // The answer to the bytes of the program's standard input.
 pub fn respond(input: &[u8]) -> Response
-    ensures value { (2_974 ≡ length result.bytes) × (result.len ≤ 2_974) }
+    ensures lengths { (2_974 ≡ length result.bytes) × (result.len ≤ 2_974) }
     ensures wrote { Wrote (program_output input.now) (replicate 2_974 0) result.len result.bytes }
 {
     let mut bytes = [0u8; 2974];

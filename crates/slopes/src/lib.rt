@@ -67,8 +67,8 @@ fn axis_slope(
 // Both slopes at a position of a lattice that is known to be long enough and in range. It scans nothing.
 fn slopes_within(m: usize, n: usize, e: u32, lattice: &[i64], x: usize, y: usize) -> Slopes
     requires { Readable m n e lattice.now x y }
-    ensures along_x_value { result.along_x ≡ rule.slope_x (2 ^ e) m n (control m lattice.now) x y }
-    ensures along_y_value { result.along_y ≡ rule.slope_y (2 ^ e) m n (control m lattice.now) x y }
+    ensures x_slope { result.along_x ≡ rule.slope_x (2 ^ e) m n (control m lattice.now) x y }
+    ensures y_slope { result.along_y ≡ rule.slope_y (2 ^ e) m n (control m lattice.now) x y }
 {
     let across = basis::locate(x, m, e);
     let up = basis::locate(y, n, e);

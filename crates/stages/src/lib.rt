@@ -44,8 +44,8 @@ fn block_at(heights: &[i64], start: usize, end: usize, stage: i64) -> u64
 // The pond of the first n heights, which have passed their checks, 64 at a time.
 fn pond_at(heights: &[i64], n: usize, stage: i64) -> Pond
     requires { (n ≤ length heights.now) × (n ≤ 8_193 * 8_193) × AllInRange n heights.now × (nat_abs stage ≤ limit) }
-    ensures sum_value { result.sum ≡ depths n heights.now stage }
-    ensures wet_value { result.wet ≡ wets n heights.now stage }
+    ensures sum_of_depths { result.sum ≡ depths n heights.now stage }
+    ensures wet_count { result.wet ≡ wets n heights.now stage }
 {
     let mut sum = 0u64;
     let mut wet = 0u64;
@@ -153,7 +153,7 @@ pub fn stage_for(
     wanted: u64,
     side: usize,
 ) -> StageTold
-    ensures result_value { told result ≡ stage_for_answer columns rows heights.now wanted side }
+    ensures answer { told result ≡ stage_for_answer columns rows heights.now wanted side }
     ensures lowest_stage { (z : ℤ) → told result ≡ accepted z → LowestStage columns rows heights.now wanted side z }
 {
     if let Verdict::Refused(r) = storage::pond_checks(columns, rows, heights, side) {

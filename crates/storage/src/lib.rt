@@ -127,8 +127,8 @@ pub fn pond_checks(columns: usize, rows: usize, heights: &[i64], side: usize) ->
 
 // Of the heights that an accepted raster left none is refused: only the side and the stage can be.
 pub fn storage(columns: usize, rows: usize, heights: &[i64], stage: i64, side: usize) -> Stored
-    ensures result_value { told result ≡ rule.storage_answer columns rows heights.now stage side }
-    ensures result_value_2 { Sampled columns rows heights.now → told result ≡ sampled_answer columns rows heights.now stage side }
+    ensures answer { told result ≡ rule.storage_answer columns rows heights.now stage side }
+    ensures sampled { Sampled columns rows heights.now → told result ≡ sampled_answer columns rows heights.now stage side }
 {
     if let Verdict::Refused(r) = pond_checks(columns, rows, heights, side) {
         return Stored::Refused(r);
