@@ -66,7 +66,7 @@ module _ (m n U : ℕ) (l : List ℤ) (x0 y0 step columns rows : ℕ) (stage : �
 module _ {m n e : ℕ} {l : List ℤ} {x0 y0 step columns rows : ℕ} {stage : ℤ} (s : Inspectable m n e l (nodes_at x0 y0 step columns rows) stage) (some : 0 < rows)
     {column : ℕ} {strip : Strip} (is : strip ≡ strip_at m n e x0 y0 step columns column) (starts : column < columns) where
   pub above_strip : StripInside strip
-  above_strip = strip_inside is s.ground.grid (s.inside.along_x some) starts
+  above_strip = strip_inside is s.grounded.grid (s.inside.along_x some) starts
 
   pub rows_inside : RowsInside strip rows
   rows_inside = rw is (record { inside = λ j h. s.inside.along_y (omega arith) j h })

@@ -62,7 +62,7 @@ module _ {s : Strip} {l : List ℤ} {cells : List ℕ} {taps : List ℤ} (t : Ta
   -- the four lattice rows of a cell are stored
   pub rows_stored : (k : ℕ) → k < s.n → (k + 4) * (s.m + 3) ≤ length l
   unfolding controls
-  rows_stored k h = let most : k + 4 ≤ s.n + 3 = omega arith in omega (arith, mul-le-mul_right (s.m + 3) most, mul_comm (s.m + 3) (s.n + 3), t.ground.long)
+  rows_stored k h = let most : k + 4 ≤ s.n + 3 = omega arith in omega (arith, mul-le-mul_right (s.m + 3) most, mul_comm (s.m + 3) (s.n + 3), t.grounded.long)
 
   -- "Where all sixteen control values of a cell are at or below the stage, its nodes needn't be worked out"
   pub cells_low : {stage : ℤ} {k a b from to : ℕ} → CellsBelow stage s.m l cells k from to → to ≤ s.w → Band s k a b → RowsInside s b → NodesBelow s l stage a b from to

@@ -196,10 +196,10 @@ line_within {l} {q} {apart} {b} {e} w =
 
 module _ {m n e : ℕ} {l : List ℤ} {x y : ℕ} (r : Readable m n e l x y) where
   pub on_x : On (2 ^ e) m x
-  on_x = on_grid e m x r.ground.grid.e_most r.ground.grid.m_some r.x_inside
+  on_x = on_grid e m x r.grounded.grid.e_most r.grounded.grid.m_some r.x_inside
 
   pub on_y : On (2 ^ e) n y
-  on_y = on_grid e n y r.ground.grid.e_most r.ground.grid.n_some r.y_inside
+  on_y = on_grid e n y r.grounded.grid.e_most r.grounded.grid.n_some r.y_inside
 
   -- the four rows that a position reads lie in the lattice: the last place of the last row does
   pub last_place : {bx by : Basis} {cx cy : ℕ} → Based (2 ^ e) m x bx cx → Based (2 ^ e) n y by cy

@@ -24,7 +24,7 @@ module _ {m n e : ℕ} {l : List ℤ} {x0 y0 step columns rows room : ℕ} (s : 
   module _ (some : 0 < rows) where
     module _ {column : ℕ} {strip : Strip} (is : strip ≡ strip_at m n e x0 y0 step columns column) (starts : column < columns) where
       pub raster_strip : StripInside strip
-      raster_strip = strip_inside is s.ground.grid (s.inside.along_x some) starts
+      raster_strip = strip_inside is s.grounded.grid (s.inside.along_x some) starts
 
       pub strip_room : {now : ℕ} → now ≡ room → Room strip rows now
       strip_room e = rw is (record { inside = λ j h. s.inside.along_y (omega arith) j h; fits = rw e s.fits })
