@@ -1,5 +1,5 @@
 -- What the sums in scratch settle to, once every point is added: the rule's control values, and which of them are refused.
--- A caller of `gather` and `settle_all` takes the level lattice from values-table and the refusal from refused-table.
+-- A caller of `gather` and `settle_all` takes the level lattice from values_table and the refusal from refused_table.
 use Prim.Native.Nat.{ℕ, ◌+◌, ◌/◌, ◌%◌, ◌<◌}
 use mathlib.Core.Path.{◌≡◌, ap, ◌∙◌}
 use mathlib.Core.List.{List}

@@ -1,5 +1,5 @@
 -- "Refinement" of document 01. Definitions only.
-use Rattle.std.specs.Prelude.{ℕ, zero, suc, ◌+◌, ◌*◌, ◌/◌, ◌%◌, ℤ, pos, ◌+ℤ◌, ◌*ℤ◌}
+use Rattle.std.specs.Prelude.{ℕ, zero, suc, ◌+◌, ◌/◌, ◌%◌, ℤ, pos, ◌+ℤ◌, ◌*ℤ◌}
 use Rattle.rules.specs.Rounding.{near}
 use Rattle.rules.specs.Grid.{Lattice}
 

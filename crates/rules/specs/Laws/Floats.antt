@@ -3,7 +3,7 @@ use Rattle.std.specs.Prelude.{◌≡◌, refl, Bool, true, false, ◌&&◌, cond
 use Rattle.std.proofs.Common.{sym, ap, subst, ◌∙◌, mul_assoc, mul_right_comm, one-mul, mul-one, lt_of_not-le, not-le_of_lt, arith, eqb→eq, ltb→lt, leb→le, pow-add, pow_pos, shl_lt}
 use Rattle.std.proofs.Math.Nat.{eq_of_mul-eq-mul_right}
 use Rattle.std.proofs.Math.Pow.{pow-lt}
-use Rattle.std.specs.Float.{nan, inf, fin, Format, binary64}
+use Rattle.std.specs.Float.{nan, inf, fin, binary64}
 use Rattle.std.specs.Float.Ieee.{prec, emax, low, up, down, size, fits, round, odd, units, mul, of_int, of_bits, to_bits, top, hid, unlike}
 use Rattle.std.specs.Float.Ieee.Bits.{of_bits-to_bits}
 use Rattle.std.specs.Float.Ieee.Exact.{HasValue, round_exact}

@@ -147,9 +147,9 @@ module _ (a : Shape) (s : Survey) where
 
     sum_tells : quotient_check a d k ≡ none → residual_check a d k ≡ none → sum_check a d k ≡ some r → Tells r
     unfolding residual_check sum_check
-    sum_tells quotients residuals-fine e =
+    sum_tells quotients residuals_fine e =
         let q = range_check_refusal (controls (columns a k) (rows a k)) (running a d k) (λ q. sum k) r e in
-        let fine = range_check_size (point_count s) (residuals a d (suc k)) (λ i. residual k) residuals-fine in
+        let fine = range_check_size (point_count s) (residuals a d (suc k)) (λ i. residual k) residuals_fine in
         let out : SumOut a d k = record { reached = reached; quotients = quotients; residuals_in = fine; at = q.0; stored = q.1; out = q.2 } in
         subst Tells q.3 (record { by_15 = λ n. absurd (omega arith); by_7 = λ n. absurd (omega arith); by_13 = λ n. absurd (omega arith); by_14 = λ n. inl out })
 
