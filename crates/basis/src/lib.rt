@@ -1,6 +1,7 @@
 // One step of a height: the cell of a position, the four numerators of its offset there, and near of the sum of four values over 6U³.
 // U is a power of two, 2^e, so that cells are found by a shift.
 #![tactic(auto)]
+
 ghost use Rattle.std.specs.Prelude.{◌≡◌, ◌^◌, ◌≤◌, ◌<◌, nat_abs};
 ghost use Rattle.rules.specs.Surface as rule;
 ghost use Rattle.basis.specs.Weighing.{Weighs, Located, numerators, four, weight_size, Summable, line_sum, Weighable, line_height};
