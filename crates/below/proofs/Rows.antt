@@ -1,7 +1,7 @@
 -- Values at or below a stage, and the lattice rows that were looked at.
 use mathlib.Core.Path.{◌≡◌}
 use mathlib.Core.List.{List}
-use Prim.Native.Nat.{ℕ, zero, suc, ◌+◌, ◌*◌, ◌%◌, ◌≤◌, ◌<◌, min, max}
+use Prim.Native.Nat.{ℕ, ◌+◌, ◌*◌, ◌%◌, ◌≤◌, ◌<◌}
 use native.Mathlib.Nat.{mul-le-mul_right}
 use native.Mathlib.Decide.{dec_lt}
 use native.Mathlib.Omega.{arith}
@@ -11,10 +11,7 @@ use lib.Seq.{get_or-set_same, get_or-set_other}
 use Rattle.rules.specs.Grid.{control}
 use Rattle.below.specs.Below.{ValuesBelow, RowBelow, RowsBelow}
 
--- fewer values, of the stage that the bits stand for
-pub values_end : {z stage : ℤ} {l : List ℤ} {a b c d : ℕ} → z ≡ stage → a ≤ c → d ≤ b → ValuesBelow z l a b → ValuesBelow stage l c d
-values_end e h k v = record { low = λ i m n. rw e at (v.low i (omega arith) (omega arith)) }
-
+-- values of the stage that the bits stand for
 pub values_of : {z stage : ℤ} {l : List ℤ} {a b : ℕ} → z ≡ stage → ValuesBelow z l a b → ValuesBelow stage l a b
 values_of e v = rw e at v
 
@@ -48,28 +45,3 @@ rows_more {stage} {m} {l} {left} {right} {last} {t} {highs} {first} {end} h new 
         let same : r ≡ t = omega arith in
         rw (same, get_or-set_other one (t % 4 + 4) (t % 4) end 0 (omega arith), get_or-set_same highs (t % 4) first 0 (omega (arith, had.eight)), get_or-set_same one (t % 4 + 4) end 0 (simp length-set (omega (arith, had.eight))))
         new
-
--- ---- the first four of a list and the next four
-
-module _ (f : List ℕ) {a b c : ℕ} where
-  pub four_least : a ≡ min (get_or f 0 0) (get_or f 1 0) → b ≡ min (get_or f 2 0) (get_or f 3 0) → c ≡ min a b → (j : ℕ) → j < 4 → c ≤ get_or f j 0
-  four_least p q r zero h = omega arith
-  four_least p q r (suc zero) h = omega arith
-  four_least p q r (suc (suc zero)) h = omega arith
-  four_least p q r (suc (suc (suc zero))) h = omega arith
-  four_least p q r (suc (suc (suc (suc j)))) h = absurd (omega arith)
-
-  pub four_most : a ≡ max (get_or f 4 0) (get_or f 5 0) → b ≡ max (get_or f 6 0) (get_or f 7 0) → c ≡ max a b → (j : ℕ) → j < 4 → get_or f (j + 4) 0 ≤ c
-  four_most p q r zero h = omega arith
-  four_most p q r (suc zero) h = omega arith
-  four_most p q r (suc (suc zero)) h = omega arith
-  four_most p q r (suc (suc (suc zero))) h = omega arith
-  four_most p q r (suc (suc (suc (suc j)))) h = absurd (omega arith)
-
--- of the four rows from row k on, those before `next` were looked at; and of the stage that the bits stand for
-module _ {stage z : ℤ} {m : ℕ} {l : List ℤ} {left right next : ℕ} {highs : List ℕ} where
-  pub rows_from : (k : ℕ) → z ≡ stage → {t : ℕ} → t ≡ max next k → next ≤ k + 4 → RowsBelow stage m l left right next next highs → RowsBelow z m l left right (k + 4) t highs
-  rows_from k e is most had = rw e (record { eight = had.eight; row = λ r a b. had.row r (omega arith) (omega arith) })
-
-  pub rows_of : {last t : ℕ} → z ≡ stage → t ≡ next → RowsBelow z m l left right last t highs → RowsBelow stage m l left right last next highs
-  rows_of e is had = rw (e, is) at had

@@ -2,6 +2,7 @@
 // row the first and the last value above the stage are found, once for all the cells that read it: what lies before the first of four rows and behind the
 // last is at or below the stage.
 #![tactic(auto)]
+
 ghost use Rattle.std.specs.Prelude.{◌≡◌, ℕ, ◌+◌, ◌*◌, ◌≤◌, ◌<◌, length, get_or};
 ghost use Rattle.below.specs.Below.{ValuesBelow, RowBelow, RowsBelow, Rising, Apart};
 

@@ -1,12 +1,10 @@
--- `below::first_high` meets its contract. The loop's invariant: the values before i are at or below the stage.
+-- The loop's invariant: the values before i are at or below the stage.
 use Prim.Native.Nat.{◌-◌, ◌≤◌}
-use mir.Syntax.{w64}
-use mir.Val.{to_z}
 use Rattle.below.specs.Below.{ValuesBelow}
 use Rattle.below.proofs.first_high.Given as goal
 
-abbrev pub invariant-loop : goal.invariant-loop
-invariant-loop l = (l.q ≤ l.i) × (l.i ≤ l.end) × ValuesBelow (to_z w64 l.stage) l.lattice l.q l.i
+abbrev pub invariant-loop-i : goal.invariant-loop-i
+invariant-loop-i l = (l.q ≤ l.i) × (l.i ≤ l.end) × ValuesBelow l.stage l.lattice l.q l.i
 
-abbrev pub decreases-loop : goal.decreases-loop
-decreases-loop l = l.end - l.i
+abbrev pub decreases-loop-i : goal.decreases-loop-i
+decreases-loop-i l = l.end - l.i
