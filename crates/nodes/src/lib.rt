@@ -1,5 +1,6 @@
 // The nodes of a raster: columns × rows positions from (x0, y0) at one step, row by row, and their checks.
 #![tactic(auto)]
+
 ghost use Rattle.std.specs.Prelude.{◌≡◌, ◌≤◌, ◌<◌};
 ghost use Rattle.rules.specs.Calls.{nodes_at, default_step, step_of, size_check, nodes_check};
 ghost use Rattle.answers.specs.Cause.{check};
