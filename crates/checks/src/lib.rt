@@ -1,5 +1,6 @@
 // The checks of lent lattices and cell counts that several calls share, in document 01's order.
 #![tactic(auto)]
+
 ghost use Rattle.std.specs.Prelude.{◌≡◌, ◌≤◌, length};
 ghost use Rattle.rules.specs.Grid as grid;
 ghost use Rattle.rules.specs.Grid.{controls};
