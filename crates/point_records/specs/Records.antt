@@ -2,7 +2,6 @@
 use Rattle.std.specs.Prelude.{ℕ, ◌+◌, ◌≤◌, ◌<◌, ◌≡◌, refl, List, length, get_or}
 use Rattle.std.proofs.Common.{ap, ◌∙◌, arith, leb→le}
 use Rattle.std.proofs.Math.Option.{none}
-use Rattle.rules.specs.Answers.{◌then◌}
 use Rattle.rules.specs.Bytes.{number_at}
 use Rattle.rules.specs.PointFile.{PH, size_of, point_start, file_shape, file_start, point_head_check}
 use Rattle.rules.specs.Laws.Bytes.{entries, number_at_entries, record_fits}

@@ -1,5 +1,6 @@
 // The records of a point file, judged, and what its head says.
 #![tactic(auto)]
+
 ghost use Rattle.std.specs.Prelude.{◌≡◌, ◌+◌, ◌^◌, ◌≤◌, ◌<◌, length};
 ghost use Rattle.rules.specs.Answers.{answer, first_of};
 ghost use Rattle.rules.specs.Bytes.{record_check};
@@ -26,7 +27,7 @@ pub enum PointsRead {
 }
 
 // The mark of a file's point records, all alike: "PT", or "PQ".
-#[derive(Drop)]
+#[derive(Clone, Copy)]
 pub enum Kind {
     Pt,
     Pq,
