@@ -1,6 +1,7 @@
 // The answers as C is handed them, a struct for each kind: number 0 for an acceptance, and values of 0 for a refusal.
 // A refusal's place is taken before its number: the other way round the compiler makes one jump of both, and the loops before it pay for its registers.
 #![tactic(auto)]
+
 ghost use Rattle.std.specs.Prelude.{◌≡◌};
 ghost use Rattle.answers.specs.CellsTold as cells_told;
 ghost use Rattle.answers.specs.CountTold as count_told;
