@@ -1,5 +1,6 @@
 // The bytes of numbers and values in a file: little-endian, signed values in two's complement. Nothing here knows of ranges.
 #![tactic(auto)]
+
 ghost use Rattle.std.specs.Prelude.{◌≡◌, ◌+◌, ◌≤◌, length};
 ghost use Rattle.algebra.specs.Table.{laid};
 ghost use Rattle.rules.specs.Bytes.{bytes_of, value_bytes, complement, uncomplement, number_at, value_at};

@@ -1,5 +1,6 @@
 // Values in range, one by one and in a scan of many.
 #![tactic(auto)]
+
 ghost use Rattle.std.specs.Prelude.{◌≡◌, ℕ, ◌+◌, ◌^◌, ◌<◌, ◌≤◌, length, nat_lt, unsigned_abs};
 ghost use Rattle.rules.specs.Answers as rule;
 ghost use Rattle.rules.specs.Fit.{shifted};

@@ -1,5 +1,6 @@
 // The records of both files: their marks, and the check that each begins with.
 #![tactic(auto)]
+
 ghost use Rattle.std.specs.Prelude.{◌≡◌, ◌+◌, ◌≤◌, ◌<◌, ◌^◌, length, take, drop, ◌∷◌, []};
 ghost use Rattle.algebra.specs.Table.{laid};
 ghost use Rattle.rules.specs.Bytes.{same, record_check};

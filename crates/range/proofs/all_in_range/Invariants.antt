@@ -1,10 +1,10 @@
--- `range::all_in_range` meets its contract. The loop's invariant: the top bit is still 0 exactly if no value before i is refused.
+-- The loop's invariant: the top bit is still 0 exactly if no value before i is refused.
 use Rattle.std.proofs.Common.{◌-◌, ◌≤◌}
 use Rattle.range.specs.Scan.{Scanned}
 use Rattle.range.proofs.all_in_range.Given as goal
 
-abbrev pub invariant-loop : goal.invariant-loop
-invariant-loop l = (l.i ≤ l.end) × Scanned l.i l.bits l.values
+abbrev pub invariant-loop-i : goal.invariant-loop-i
+invariant-loop-i l = (l.i ≤ l.end) × Scanned l.i l.bits l.values
 
-abbrev pub decreases-loop : goal.decreases-loop
-decreases-loop l = l.end - l.i
+abbrev pub decreases-loop-i : goal.decreases-loop-i
+decreases-loop-i l = l.end - l.i

@@ -1,0 +1,30 @@
+use Rattle.std.proofs.Common.{◌≡◌, ◌≤◌, length, get_or, ℤ, pos, nat_abs, sym, ap, ◌∙◌, arith, w64, to_z, of_z}
+use Rattle.machine.specs.Held.{Number, number, itself, read, plus}
+use Rattle.machine.specs.Tests.{plain}
+use Rattle.rules.specs.Grid.{limit, in_range}
+use Rattle.rules.specs.Laws.Base.{shifted_at}
+use Rattle.rules.specs.Laws.Checks.{none_out_start}
+use Rattle.range.specs.Scan.{scan_more}
+use Rattle.range.proofs.all_shifted.Goals as goal
+
+-- the sum of a turn, b being read back from its bits
+abbrev sum : (z b : ℤ) → nat_abs z ≤ limit → nat_abs b ≤ limit → Number
+sum z b small little = number (plus (read tt (itself z limit small)) (itself b limit little))
+
+pub loop-i-init : goal.loop-i-init
+loop-i-init c = (omega arith, λ r. none_out_start _ (λ i. r))
+
+pub loop-i-preserved : goal.loop-i-preserved
+loop-i-preserved c =
+    let l = c.loop-i in
+    let values = c.args.values.now in
+    let b = to_z w64 (of_z w64 c.args.b) in
+    let turn = sum (get_or values l.i (pos 0)) b (c.requires.0 l.i c.loop-i-test.true) (rw (plain c.args.b c.ranges.b.sfits) c.requires.1) in
+    let test = c.range_bits-bits.ensures ∙ ap in_range ((read tt turn.held).is ∙ sym (shifted_at b values l.i c.loop-i-test.true)) in
+    (omega (arith, c.loop-i-test.true), scan_more l.i l.bits _ _ l.invariant.1 test)
+
+pub returns : goal.returns
+returns c =
+    let l = c.loop-i in
+    let last : length c.args.values.now ≡ l.i = omega arith in
+    rw (last, ← plain c.args.b c.ranges.b.sfits) l.invariant.1
