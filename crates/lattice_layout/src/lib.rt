@@ -1,5 +1,6 @@
 // Where the records of a lattice file start and how many values it has, for its reader and its writer.
 #![tactic(auto)]
+
 ghost use Rattle.std.specs.Prelude.{◌≡◌, ◌^◌, ◌≤◌, ◌<◌};
 ghost use Rattle.rules.specs.Grid.{controls};
 ghost use Rattle.rules.specs.LatticeFile.{row_start};

@@ -1,5 +1,6 @@
 // What the program takes: "at most .. 16 finest cells a side", and of document 02 "7,508 bytes".
 #![tactic(auto)]
+
 ghost use Rattle.std.specs.Prelude.{◌≡◌, ◌&&◌, ◌≤◌, leb};
 ghost use Rattle.rules.specs.Fit.{shape, columns, rows};
 
