@@ -1,5 +1,6 @@
 // The weights of a point, in f64 to the bit: the four of each axis, their sixteen products and the sum of their squares.
 #![tactic(auto)]
+
 ghost use Rattle.std.specs.Prelude.{◌≡◌, ◌^◌, ◌≤◌, nat_abs};
 ghost use Rattle.algebra.specs.Table.{tabulate};
 ghost use Rattle.rules.specs.Level as rule;
