@@ -1,5 +1,5 @@
 -- What the steps' contracts cite beside the rules.
-use Rattle.std.specs.Prelude.{ℕ, ◌+◌, ◌≡◌, Bool, List, T, ℤ, pos, ◌+ℤ◌, get_or}
+use Rattle.std.specs.Prelude.{ℕ, ◌≡◌, Bool, List, T, ℤ, pos, ◌+ℤ◌, get_or}
 use Rattle.algebra.specs.Table.{tabulate, laid, Free}
 use Rattle.rules.specs.Answers.{Refusal, range_check}
 use Rattle.answers.specs.Cause.{ok_check}

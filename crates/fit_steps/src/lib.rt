@@ -1,6 +1,7 @@
 // The steps of a level in the scratch of whole numbers: areas of one lent slice, each given by its first place.
 // A step that can meet a value out of range says so by false; the places that it writes are then free.
 #![tactic(auto)]
+
 ghost use Rattle.std.specs.Prelude.{◌≡◌, ◌+◌, ◌*◌, ◌≤◌, ◌<◌, pos, length, take, replicate};
 ghost use Rattle.algebra.specs.Table.{Apart, over, laid, area};
 ghost use Rattle.rules.specs.Grid.{controls, control, store};

@@ -1,5 +1,6 @@
 // The residuals of a level, lowered by its heights, in the scratch of whole numbers.
 #![tactic(auto)]
+
 ghost use Rattle.std.specs.Prelude.{length};
 ghost use Rattle.algebra.specs.Table.{area};
 ghost use Rattle.rules.specs.Grid.{controls};
