@@ -1,13 +1,11 @@
 -- The count that both roundings by a shift make of v: v + c + k·2^j, where c is 1 less than the lift, so that it is not below 0. Its quotient, less the
 -- lift's, is near of v over k·2^(j+1).
-use mathlib.Core.Path.{◌≡◌, sym, ap, subst, ◌∙◌}
+use mathlib.Core.Path.{◌≡◌, sym, ap, ◌∙◌}
 use Prim.Native.Nat.{ℕ, ◌+◌, ◌-◌, ◌*◌, ◌/◌, ◌%◌, ◌^◌, ◌≤◌, ◌<◌}
 use native.Mathlib.Nat.{mul-le-mul, mul-le-mul_left, div-add-mod}
 use native.Mathlib.Omega.{arith}
-use lib.Dec.{T}
 use lib.IntN.{ℤ, pos, nat_abs, ◌+ℤ◌, ◌-ℤ◌}
 use lib.Pow.{pow-add, pow_mono}
-use lib.Signed.{non_neg}
 use Rattle.algebra.specs.Difference.{split, whole}
 use Rattle.machine.specs.Held.{Number, number, itself, cast_low, read, plus}
 use Rattle.rules.specs.Rounding.{near}
@@ -42,9 +40,6 @@ module _ {v : ℤ} {k j c : ℕ} (r : Counted v k j c) where
     where
       go : (v : ℤ) (h : ℕ) → nat_abs v ≤ 3_300_000_000_000_000_000 → 3_400_000_000_000_000_000 ≤ c → v +ℤ (pos c +ℤ pos h) ≡ pos (nat_abs (v +ℤ (pos c +ℤ pos h)))
       go v h = rw (split v) (simp whole (omega arith))
-
-  pub not_below : T (non_neg count.code)
-  not_below = subst (λ z. T (non_neg z)) (sym count_is) tt
 
   pub count_size : nat_abs count.code ≤ 7_911_686_018_830_041_087
   count_size = rw count.held.is count.held.size

@@ -1,6 +1,6 @@
 -- The floor of v / d by a quotient toward zero: of v itself from 0 on, and of v - (d - 1) below 0.
 use mathlib.Core.Path.{◌≡◌, refl, ap, ◌∙◌}
-use Prim.Native.Nat.{ℕ, suc, ◌+◌, ◌-◌, ◌*◌, ◌/◌, ◌≤◌, suc-le-suc}
+use Prim.Native.Nat.{ℕ, suc, ◌+◌, ◌-◌, ◌/◌, ◌≤◌, suc-le-suc}
 use native.Mathlib.Nat.{mul-add-div_right, div-le_self, le_trans}
 use native.Mathlib.Omega.{arith}
 use lib.Dec.{ltb→lt}

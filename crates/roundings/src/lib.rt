@@ -1,6 +1,7 @@
 // near over any divisor; and over those that the surface and its slopes have, without a general division: a power of two, which 2U³ is for U = 2^e, by
 // a shift, and 6U³ = 3·2^(3e+1) by a shift and a division by 3.
 #![tactic(auto)]
+
 ghost use Rattle.std.specs.Prelude.{◌≡◌, ◌↔◌, ◌+◌, ◌*◌, ◌/◌, ◌%◌, ◌^◌, ◌≤◌, ◌<◌, ℤ, pos, nat_abs, ◌<ℤ◌};
 ghost use Rattle.rules.specs.Rounding.{floor, near};
 ghost use Rattle.rules.specs.Surface.{denominator};
