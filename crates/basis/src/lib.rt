@@ -7,7 +7,7 @@ ghost use Rattle.rules.specs.Surface as rule;
 ghost use Rattle.basis.specs.Weighing.{Weighs, Located, numerators, four, weight_size, Summable, line_sum, Weighable, line_height};
 
 // Four weights, as the numerators of a position in its cell.
-#[derive(Drop)]
+#[derive(Clone, Copy)]
 pub struct Basis {
     pub b0: i64,
     pub b1: i64,
