@@ -1,6 +1,7 @@
 // The nodes of a raster, a strip of at most 64 columns at a time. A strip keeps the rounded x sums of the last four lattice rows in a ring, so that a
 // lattice row is summed once for all the raster rows that use it, and a node costs one rounding.
 #![tactic(auto)]
+
 ghost use Rattle.std.specs.Prelude.{◌≡◌, ℕ, ◌+◌, ◌-◌, ◌*◌, ◌%◌, ◌≤◌, ◌<◌, pos, nat_abs, length, get_or};
 ghost use Rattle.algebra.specs.Table.{tabulate, over, laid};
 ghost use Rattle.basis.specs.Weighing.{Grounded, weight_size};
@@ -10,7 +11,7 @@ ghost use Rattle.strips.specs.Strips.{strip_at, StripInside, taps_at, put, basis
 use basis::Basis;
 
 // w columns of a raster, from column on.
-#[derive(Drop)]
+#[derive(Clone, Copy)]
 pub struct Strip {
     pub m: usize,
     pub n: usize,
