@@ -1,5 +1,6 @@
 // The checks of a survey as a whole, which the fit and the point writer share: cell counts, levels and lists.
 #![tactic(auto)]
+
 ghost use Rattle.std.specs.Prelude.{◌≡◌};
 ghost use Rattle.rules.specs.Fit.{shape, survey};
 ghost use Rattle.rules.specs.Calls.{survey_check};
