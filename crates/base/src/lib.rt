@@ -1,5 +1,6 @@
 // The base that a fit takes from every height, "near of the mean height, or 0 with no points", and 15: "where a difference is out of range".
 #![tactic(auto)]
+
 ghost use Rattle.std.specs.Prelude.{◌≡◌, ◌≤◌, nat_abs, length};
 ghost use Rattle.algebra.specs.Table.{over};
 ghost use Rattle.rules.specs.Answers.{answer};

@@ -1,12 +1,11 @@
--- `base::first_far` meets its contract. The loop's invariant: no difference passed is out of range.
-use Prim.Native.Nat.{◌-◌, ◌≤◌}
-use lib.ListN.{length}
+-- The loop keeps: no difference passed is out of range.
+use Rattle.std.proofs.Common.{◌-◌, ◌≤◌, length}
 use Rattle.rules.specs.Fit.{differences}
 use Rattle.rules.specs.Laws.Checks.{NoneOut}
 use Rattle.base.proofs.first_far.Given as goal
 
-abbrev pub invariant-loop : goal.invariant-loop
-invariant-loop l = (l.i ≤ length l.zs) × NoneOut l.i (differences l.zs)
+abbrev pub invariant-loop-i : goal.invariant-loop-i
+invariant-loop-i l = (l.i ≤ length l.zs) × NoneOut l.i (differences l.zs)
 
-abbrev pub decreases-loop : goal.decreases-loop
-decreases-loop l = length l.zs - l.i
+abbrev pub decreases-loop-i : goal.decreases-loop-i
+decreases-loop-i l = length l.zs - l.i
