@@ -1,5 +1,6 @@
 // The records of a lattice file, judged: its head, its rows and its end.
 #![tactic(auto)]
+
 ghost use Rattle.std.specs.Prelude.{◌≡◌, ◌+◌, ◌*◌, ◌≤◌, length};
 ghost use Rattle.rules.specs.Answers.{first_of};
 ghost use Rattle.rules.specs.LatticeFile as rule;

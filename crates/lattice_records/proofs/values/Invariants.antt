@@ -1,13 +1,12 @@
--- `lattice_records::values` meets its contract. The loop's invariant: no value passed is refused.
-use mathlib.Core.Path.{◌≡◌}
-use mathlib.Core.Option.{none}
-use Prim.Native.Nat.{◌+◌, ◌-◌, ◌≤◌}
+-- The loop's invariant: no value passed is refused.
+use Rattle.std.proofs.Common.{◌≡◌, ◌+◌, ◌-◌, ◌≤◌}
+use Rattle.std.proofs.Math.Option.{none}
 use Rattle.rules.specs.Answers.{first_of}
 use Rattle.lattice_records.specs.Judged.{value_check}
 use Rattle.lattice_records.proofs.values.Given as goal
 
-abbrev pub invariant-loop : goal.invariant-loop
-invariant-loop l = (l.c ≤ l.m + 3) × (first_of l.c (value_check l.file l.s) ≡ none)
+abbrev pub invariant-loop-c : goal.invariant-loop-c
+invariant-loop-c l = (l.c ≤ l.m + 3) × (first_of l.c (value_check l.file l.s) ≡ none)
 
-abbrev pub decreases-loop : goal.decreases-loop
-decreases-loop l = l.m + 3 - l.c
+abbrev pub decreases-loop-c : goal.decreases-loop-c
+decreases-loop-c l = l.m + 3 - l.c
