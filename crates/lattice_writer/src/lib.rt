@@ -1,5 +1,6 @@
 // The lattice file's writer.
 #![tactic(auto)]
+
 ghost use Rattle.std.specs.Prelude.{◌≡◌, ◌+◌, ◌*◌, ◌≤◌, length};
 ghost use Rattle.algebra.specs.Table.{over, joined, laid};
 ghost use Rattle.rules.specs.Grid.{controls};
