@@ -1,5 +1,6 @@
 // What the caller of a fit lends: whether there is room in it, and the results that are put there.
 #![tactic(auto)]
+
 ghost use Rattle.std.specs.Prelude.{◌≡◌, ◌+◌, ◌*◌, ◌%◌, ◌≤◌, nat_abs, length};
 ghost use Rattle.algebra.specs.Table.{over, area};
 ghost use Rattle.rules.specs.Grid.{limit};
@@ -11,6 +12,7 @@ ghost use Rattle.answers.specs.Cause.{check};
 use answers::{Refusal, Verdict};
 
 // 4: "For p points the caller lends at least: lattice K, residuals p, whole scratch 3K+p, f64 scratch 2K".
+#[tactic(auto, unfolding(rules::specs::Calls::room_check, rules::specs::Answers::require))]
 pub fn room(
     most: usize,
     p: usize,
