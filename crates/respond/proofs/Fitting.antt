@@ -1,13 +1,7 @@
 -- A survey that the program takes passes the fit's checks 1 to 6 and 17, and the lattice file of what the fit leaves is the answer.
-use mathlib.Core.Path.{◌≡◌, refl, sym, ap, ap₂, ◌∙◌}
-use mathlib.Core.Option.{none}
-use mathlib.Core.List.{List, ◌++◌}
-use Prim.Native.Nat.{ℕ, ◌+◌, ◌*◌, ◌≤◌}
-use native.Mathlib.Nat.{mul-le-mul}
-use native.Mathlib.Omega.{arith}
-use borrow.Author.Tests.{le-leb}
-use lib.IntN.{ℤ}
-use lib.ListN.{length}
+use Rattle.std.specs.Prelude.{ℕ, ◌+◌, ◌*◌, ◌≤◌, ◌≡◌, refl, List, ◌++◌, ℤ, length}
+use Rattle.std.proofs.Common.{sym, ap, ap₂, ◌∙◌, mul-le-mul, arith, le-leb}
+use Rattle.std.proofs.Math.Option.{none}
 use Rattle.algebra.specs.Table.{over, joined_same}
 use Rattle.rules.specs.Grid.{controls, control}
 use Rattle.rules.specs.Fit.{Shape, columns, rows, Survey, point_count, single_lattice, difference_check, in_levels_check}

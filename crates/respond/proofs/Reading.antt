@@ -1,15 +1,9 @@
 -- What the program writes at each of its tests: too many bytes, a file that is refused, too many cells, and a survey that is taken.
-use mathlib.Core.Path.{◌≡◌, refl, sym, ap, subst, ◌∙◌}
-use mathlib.Core.Bool.{Bool, true, false, ◌&&◌}
-use mathlib.Core.Option.{none, some}
-use mathlib.Core.List.{List}
-use Prim.Native.Nat.{ℕ, ◌≤◌, ◌<◌}
-use native.Mathlib.Omega.{arith}
-use borrow.Author.Tests.{le-leb, lt-leb}
-use lib.Dec.{T, leb, leb→le, le→leb, eqb→eq}
-use lib.ListN.{length, take}
-use lib.Seq.{take_at}
-use mir.Facts.{and_yes}
+use Rattle.std.specs.Prelude.{ℕ, ◌≤◌, ◌<◌, ◌≡◌, refl, Bool, true, false, ◌&&◌, List, T, leb, length, take}
+use Rattle.std.proofs.Common.{sym, ap, subst, ◌∙◌, arith, le-leb, leb→le, le→leb, eqb→eq, take_at}
+use Rattle.std.proofs.Math.Option.{none, some}
+use Rattle.std.proofs.Math.Facts.{and_yes}
+use Rattle.std.proofs.lemmas.Bool.{lt-leb}
 use Rattle.algebra.specs.Table.{tabulate, over, length_tabulate}
 use Rattle.rules.specs.Fit.{Shape, columns, rows, Survey, survey, point_count, difference_check, in_levels_check}
 use Rattle.rules.specs.Answers.{Refusal, Check, require, ◌then◌, short, Answer, accepted, refused, outcome}

@@ -1,5 +1,6 @@
 // The program's answer to the bytes of its standard input: the lattice file, or one line "refused N P".
 #![tactic(auto)]
+
 ghost use Rattle.std.specs.Prelude.{◌≡◌, ◌≤◌, length, replicate};
 ghost use Rattle.rules.specs.Fit.{shape, survey};
 ghost use Rattle.rules.specs.Program.{program_output};
