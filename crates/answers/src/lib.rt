@@ -1,5 +1,6 @@
 // What the caller is told: the refusals of documents 01 and 02, as a type of the code, with the number and the place of each.
 #![tactic(auto)]
+
 ghost use Rattle.std.specs.Prelude.{◌≡◌};
 ghost use Rattle.rules.specs.Answers as rule;
 ghost use Rattle.answers.specs.Cause.{cause};

@@ -1,5 +1,6 @@
 // The lesser and the greater of two counts; and, in specs/, facts of the machine's i64 arithmetic.
 #![tactic(auto)]
+
 ghost use Rattle.std.specs.Prelude.{◌≡◌, min, max};
 
 pub fn lesser(a: usize, b: usize) -> usize
