@@ -6,7 +6,7 @@ use native.Mathlib.Omega.{arith}
 use borrow.Author.Tests.{lt-ltb, le-ltb}
 use lib.Dec.{lit≤}
 use lib.IntN.{ℤ, pos, negsuc, neg_ℤ, nat_abs, ◌+ℤ◌}
-use lib.Ieee.{Float, fin, binary64, up, down, round, neg, sum, add, sub, of_int}
+use lib.Ieee.{Float, nan, inf, fin, binary64, up, down, round, neg, sum, add, sub, of_int}
 use lib.Ieee.Fits.{down_pos}
 use lib.Ieee.Exact.{HasValue}
 use lib.Ieee.Nearest.{closest}
@@ -45,6 +45,8 @@ sum_is false m e N p h =
 
 difference_is : (t : Float) (R : ℕ) (n : ℤ) → HasValue t false R 1 → pos R ≡ n +ℤ pos base → sub binary64 t shift ≡ of_int binary64 n
 unfolding sub add sum neg of_int
+difference_is nan R n v h = elim v [ ]
+difference_is (inf _) R n v h = elim v [ ]
 difference_is (fin true m e) R n v h = absurd (true≢false v.0)
 difference_is (fin false m e) R (pos n) v h =
     let r : R * down e ≡ (n + base) * down e = ap (λ x. nat_abs x * down e) h in

@@ -8,7 +8,7 @@ use borrow.Author.Tests.{eq-eqb}
 use lib.Dec.{T, is_le, compare_is_eq, lit≤, leb→le, nleb→lt, eqb→eq}
 use lib.Pow.{pow-add, pow_pos, pow_mono, shl_lt}
 use lib.IntN.{pos}
-use lib.Ieee.{Float, fin, Format, prec, low, up, down, size, nearest, round}
+use lib.Ieee.{Float, nan, inf, fin, Format, prec, low, up, down, size, nearest, round}
 use lib.Ieee.Digits.{size-lt, size-le}
 use lib.Ieee.Fits.{two, reach, round_is}
 use lib.Ieee.Exact.{HasValue, units_val}
@@ -58,6 +58,8 @@ digits_dropped f a c p g h =
     omega (arith, two f)
 
 reduced : (x : Float) (s : Bool) (n l : ℕ) → HasValue x s (n * 2 ^ l) (2 ^ l) → HasValue x s n 1
+reduced nan s n l v = elim v [ ]
+reduced (inf _) s n l v = elim v [ ]
 reduced (fin t m e) s n l v = (v.0, eq_of_mul-eq-mul_right (2 ^ l) (pow_pos l) (m * up e * 1) (n * down e) (omega (arith, v.1)))
 
 -- below 2 ^ prec by 1 at least, so that what is rounded up is still below it

@@ -1,5 +1,6 @@
 // "The quotient becomes near of its exact value; a quotient that is no number or rounds out of range is refused": near of an f64.
 #![tactic(auto)]
+
 ghost use Rattle.std.specs.Prelude.{◌≡◌};
 ghost use Rattle.rules.specs.Level.{near_float, kept};
 ghost use Rattle.float_near.specs.Settled.{settled_value};
