@@ -1,5 +1,6 @@
 // Heights of a control lattice, read in two steps as document 01 has them.
 #![tactic(auto)]
+
 ghost use Rattle.std.specs.Prelude.{◌≡◌, ◌^◌};
 ghost use Rattle.rules.specs.Grid.{control};
 ghost use Rattle.rules.specs.Surface as rule;
