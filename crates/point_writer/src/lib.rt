@@ -1,5 +1,6 @@
 // The point file's writer: it writes PQ records.
 #![tactic(auto)]
+
 ghost use Rattle.std.specs.Prelude.{◌≡◌, ◌+◌, ◌*◌, ◌≤◌, ◌<◌, length};
 ghost use Rattle.algebra.specs.Table.{over, joined, laid};
 ghost use Rattle.rules.specs.Answers.{outcome};
