@@ -1,5 +1,6 @@
 // The C boundary: every call of documents 01 and 02 on numbers and slices, with the contract of the function below it. The header is include/curlewtable.h.
 #![tactic(auto)]
+
 ghost use Rattle.std.specs.Prelude.{◌≡◌};
 ghost use Rattle.rules.specs.Fit.{shape, survey};
 ghost use Rattle.rules.specs.Calls as calls;
