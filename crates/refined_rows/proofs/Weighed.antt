@@ -7,7 +7,7 @@ use lib.IntN.{ℤ, pos, nat_abs}
 use lib.ListN.{get_or}
 use mir.Syntax.{w64}
 use mir.Val.{to_z, of_z}
-use Rattle.machine.specs.Held.{Held, itself, read, small}
+use Rattle.machine.specs.Held.{Held, itself, read}
 use Rattle.rules.specs.Grid.{control}
 use Rattle.rules.specs.Refinement.{masked}
 use Rattle.rules.specs.Laws.Surface.{control_size}
@@ -21,9 +21,6 @@ pub record Weighed (odd c : ℕ) (f : ℕ → ℤ) (x y z : ℤ) : Type 0 where
   pub third : Held z (f (c + 1 + odd)) 32_000_000_000
 
 module _ {odd c : ℕ} {f : ℕ → ℤ} {x y z : ℤ} (w : Weighed odd c f x y z) where
-  pub asked : (odd < 2) × (nat_abs x ≤ 32_000_000_000) × (nat_abs y ≤ 32_000_000_000) × (nat_abs z ≤ 32_000_000_000)
-  asked = (w.two, small 32_000_000_000 tt w.first, small 32_000_000_000 tt w.second, small 32_000_000_000 tt w.third)
-
   -- a mask of two values reads no third
   pub learnt : masked odd (λ i. get_or (x ∷ y ∷ z ∷ []) i (pos 0)) 0 ≡ masked odd f c
   unfolding masked

@@ -1,13 +1,12 @@
--- `refined_rows::blend` meets its contract. The loop's invariant: the sums of the columns passed lie over the first places of sums.
-use mathlib.Core.Path.{◌≡◌}
-use Prim.Native.Nat.{◌+◌, ◌-◌, ◌≤◌}
+-- The loop's invariant: the sums of the columns passed lie over the first places of sums.
+use Rattle.std.proofs.Common.{◌≡◌, ◌+◌, ◌-◌, ◌≤◌}
 use Rattle.algebra.specs.Table.{tabulate, over}
 use Rattle.rules.specs.Grid.{control}
 use Rattle.rules.specs.Refinement as rule
 use Rattle.refined_rows.proofs.blend.Given as goal
 
-abbrev pub invariant-loop : goal.invariant-loop
-invariant-loop l = (l.s ≤ l.m + 3) × (l.sums ≡ over (tabulate l.s (λ l.s. rule.finer (control l.m l.lattice l.s) l.t)) l.initial.sums)
+abbrev pub invariant-loop-s : goal.invariant-loop-s
+invariant-loop-s l = (l.s ≤ l.m + 3) × (l.sums ≡ over (tabulate l.s (λ s. rule.finer (control l.m l.lattice s) l.t)) l.initial.sums)
 
-abbrev pub decreases-loop : goal.decreases-loop
-decreases-loop l = l.m + 3 - l.s
+abbrev pub decreases-loop-s : goal.decreases-loop-s
+decreases-loop-s l = l.m + 3 - l.s

@@ -1,12 +1,16 @@
--- `refined_rows::refine_row` meets its contract. The loop's invariant: the values of the places passed, two a turn, lie over the first places of row.
-use mathlib.Core.Path.{◌≡◌}
-use Prim.Native.Nat.{◌+◌, ◌-◌, ◌*◌, ◌≤◌}
-use lib.ListN.{length}
+-- The loop's invariant: the values of the places passed, two a turn, lie over the first places of row.
+use Rattle.std.proofs.Common.{◌≡◌, ℕ, ◌+◌, ◌-◌, ◌*◌, ◌≤◌, List, length, get_or, ℤ, pos}
 use Rattle.algebra.specs.Table.{tabulate, over}
+use Rattle.rules.specs.Rounding.{near}
+use Rattle.rules.specs.Refinement as rule
 use Rattle.refined_rows.proofs.refine_row.Given as goal
 
-abbrev pub invariant-loop : goal.invariant-loop
-invariant-loop l = (l.c ≤ l.m + 1) × (length l.row ≡ length l.initial.row) × (l.row ≡ over (tabulate (2 * l.c) (value l.sums)) l.initial.row)
+-- the new value at place s
+abbrev pub value : List ℤ → ℕ → ℤ
+value sums s = near (rule.finer (λ q. get_or sums q (pos 0)) s) 64
 
-abbrev pub decreases-loop : goal.decreases-loop
-decreases-loop l = l.m + 1 - l.c
+abbrev pub invariant-loop-c : goal.invariant-loop-c
+invariant-loop-c l = (l.c ≤ l.m + 1) × (length l.row ≡ length l.initial.row) × (l.row ≡ over (tabulate (2 * l.c) (value l.sums)) l.initial.row)
+
+abbrev pub decreases-loop-c : goal.decreases-loop-c
+decreases-loop-c l = l.m + 1 - l.c
