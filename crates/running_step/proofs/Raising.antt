@@ -1,14 +1,7 @@
 -- The second half of a level: what `copy_within`, or `refine_at` and `add`, leave is the running lattice of the rules.
-use mathlib.Core.Path.{◌≡◌, refl, sym, ap, ap₂, ◌∙◌}
-use mathlib.Core.Bool.{Bool}
-use mathlib.Core.Option.{none}
-use mathlib.Core.List.{List}
-use mathlib.Core.Logic.{inl, inr}
-use Prim.Native.Nat.{ℕ, suc, ◌+◌, ◌*◌, ◌/◌, ◌%◌, ◌≤◌, ◌<◌}
+use Rattle.std.proofs.Common.{◌≡◌, refl, sym, ap, ap₂, ◌∙◌, Bool, List, inl, inr, ℕ, suc, ◌+◌, ◌*◌, ◌/◌, ◌%◌, ◌≤◌, ◌<◌, arith, ℤ, length}
 use native.Mathlib.Decide.{dec_lt}
-use native.Mathlib.Omega.{arith}
-use lib.IntN.{ℤ}
-use lib.ListN.{length}
+use Rattle.std.proofs.Math.Option.{none}
 use Rattle.algebra.specs.Table.{Apart, Free, laid, area, length_area, area_laid, free_length, free_area, free_wider, free_laid, free_again}
 use Rattle.rules.specs.Answers.{range_check, sum}
 use Rattle.rules.specs.Grid.{limit, controls, control, store}

@@ -1,5 +1,6 @@
 // The second half of a level: its running lattice.
 #![tactic(auto)]
+
 ghost use Rattle.std.specs.Prelude.{◌*◌, ◌≤◌, length};
 ghost use Rattle.algebra.specs.Table.{Free};
 ghost use Rattle.rules.specs.Fit as rule;
