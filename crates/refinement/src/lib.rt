@@ -1,5 +1,6 @@
 // Refinement of a control lattice: m by n cells become 2m by 2n, row by row.
 #![tactic(auto)]
+
 ghost use Rattle.std.specs.Prelude.{◌≡◌, ◌*◌, ◌≤◌, length};
 ghost use Rattle.algebra.specs.Table.{over};
 ghost use Rattle.rules.specs.Grid.{controls, control, store};
