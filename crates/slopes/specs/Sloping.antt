@@ -1,5 +1,5 @@
 -- What the slopes' contracts cite beside the rules.
-use Rattle.std.specs.Prelude.{◌≡◌, List, ℕ, ◌+◌, ◌*◌, ◌≤◌, ◌<◌, ℤ, pos, ◌*ℤ◌}
+use Rattle.std.specs.Prelude.{List, ℕ, ◌+◌, ◌*◌, ◌≤◌, ◌<◌, ℤ, pos, ◌*ℤ◌}
 use Rattle.rules.specs.Rounding.{near}
 use Rattle.rules.specs.Surface.{weighted}
 use Rattle.rules.specs.Slope.{slope_numerator, slope_denominator}

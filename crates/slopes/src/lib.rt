@@ -1,5 +1,6 @@
 // Slopes of a control lattice along both axes, each in two steps as document 02 has them: heights across the axis, and then their slope along it.
 #![tactic(auto)]
+
 ghost use Rattle.std.specs.Prelude.{◌≡◌, ◌^◌, ◌≤◌};
 ghost use Rattle.rules.specs.Grid.{control};
 ghost use Rattle.rules.specs.Slope as rule;
