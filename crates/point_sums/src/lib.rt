@@ -1,5 +1,6 @@
 // One point's part in the sums of its sixteen control values, in f64 to the bit.
 #![tactic(auto)]
+
 ghost use Rattle.std.specs.Prelude.{◌≡◌, [], ◌∷◌, ◌+◌, ◌*◌, ◌≤◌, ◌<◌, length};
 ghost use Rattle.algebra.specs.Table.{laid};
 ghost use Rattle.rules.specs.Level as rule;
