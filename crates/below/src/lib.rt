@@ -14,7 +14,7 @@ pub struct High {
 }
 
 // The columns of a strip that have to be worked out, from `from` to `to` - 1.
-#[derive(Drop)]
+#[derive(Clone, Copy)]
 pub struct Due {
     pub from: usize,
     pub to: usize,
