@@ -1,5 +1,4 @@
 -- What the proofs of several functions share.
-pub mod Ring
 pub mod Rows
 pub mod Nodes
 pub mod Walk

@@ -1,7 +1,7 @@
 -- The rows of a band: where the cell's row of the lattice ends, they do.
 use mathlib.Core.Path.{◌≡◌}
 use Prim.Native.Nat.{ℕ, ◌+◌, ◌-◌, ◌*◌, ◌/◌, ◌%◌, ◌^◌, ◌≤◌, ◌<◌, min}
-use native.Mathlib.Nat.{mul-le-mul, mul-le-mul_left, mul_comm, mod-eq_of_lt, le-div_iff_mul-le, div-lt_iff_lt-mul, mul-div-le, div-le_self, le_trans}
+use native.Mathlib.Nat.{mul-le-mul, mul-le-mul_left, mul_comm, mod-eq_of_lt, le-div_iff_mul-le, div-lt_iff_lt-mul, mul-div-le}
 use native.Mathlib.Omega.{arith}
 use lib.Pow.{pow_pos, pow_mono}
 use Rattle.rules.specs.Surface.{cell}
@@ -36,9 +36,6 @@ module _ {s : Strip} (c : StripInside s) (j : ℕ) {k : ℕ} (at : k ≡ row_cel
 
   pub next_shifted : next % 2 ^ 64 ≡ next
   next_shifted = mod-eq_of_lt {n = next} {m = 2 ^ 64} (omega (arith, next_most))
-
-  pub steps_fit : (next - 1 - s.y0) / s.step ≤ 512 * 512
-  steps_fit = le_trans (div-le_self (next - 1 - s.y0) s.step) (omega (arith, next_most))
 
   module _ (inner : k + 1 ≡ s.n → ⊥) where
     -- the row lies in the cell, and so before its end

@@ -14,7 +14,6 @@ use Rattle.rules.specs.Laws.Surface.{height_most}
 use Rattle.below.specs.Below.{RowsBelow, Rising, Apart, CellsBelow}
 use Rattle.below.specs.declared.Due.{Due}
 use Rattle.strips.specs.Strips.{column_x, Tapped, Ringed, row_cell}
-use Rattle.strips.specs.Reading.{none_ringed}
 use Rattle.strips.specs.declared.Strip.{Strip}
 use Rattle.bands.specs.Bands.{RowsInside, Band, NodeAbove, NodesBelow, Threshold}
 use Rattle.bands.specs.declared.Kept.{Kept}
@@ -103,16 +102,6 @@ pub record Walked (s : Strip) (l : List ℤ) (stage : ℤ) (left right seen : �
   pub kept_most : (k : ℕ) → j ≤ k → kept.next ≤ row_cell s k + 4
   pub low : NodesBelow s l stage 0 j 0 s.w
 
-pub unwalked : (s : Strip) (l : List ℤ) (stage : ℤ) (left right : ℕ) (highs : List ℕ) (ring : List ℤ) → length highs ≡ 8 → length ring ≡ 256
-    → Walked s l stage left right 0 highs (record { from = 0; to = 0; next = 0 }) ring 0
-unwalked s l stage left right highs ring e r = record {
-  rows = record { eight = e; row = λ t a b. absurd (omega arith) };
-  seen_most = λ k h. omega arith;
-  held = none_ringed r;
-  kept_most = λ k h. omega arith;
-  low = record { low = λ j i m n f o. absurd (omega (arith, n)) };
-}
-
 pub rows_before : {s : Strip} {end rows : ℕ} → end ≤ rows → RowsInside s rows → RowsInside s end
 rows_before h r = record { inside = λ j l. r.inside j (omega arith) }
 
@@ -125,10 +114,6 @@ next_past s j at h i n =
 -- the numbers that bits stand for
 pub threshold_of : {stage most z v : ℤ} {e : ℕ} → z ≡ stage → v ≡ most → Threshold stage e most → Threshold z e v
 threshold_of p q t = rw (p, q) t
-
--- after the last row, of the stage that the bits stand for
-pub all_low : {s : Strip} {l : List ℤ} {z stage : ℤ} {j rows : ℕ} → z ≡ stage → rows ≤ j → NodesBelow s l z 0 j 0 s.w → NodesBelow s l stage 0 rows 0 s.w
-all_low e h n = record { low = λ j i m k f o. rw e at (n.low j i m (omega arith) f o) }
 
 -- the band of rows j to end - 1, in cell row k
 module _ {s : Strip} {l : List ℤ} {cells : List ℕ} {taps : List ℤ} (t : Tapped s l cells taps) {stage : ℤ} {left right seen : ℕ} {highs : List ℕ} {kept : Kept} {ring : List ℤ} {j : ℕ}

@@ -1,6 +1,7 @@
 // Whether a node of a strip stands above a stage. A band is the rows of nodes that lie in one row of cells. The columns from its first cell with a control value
 // above the stage to its last are worked out, by x sums in a ring as a raster has them, and all others are passed over.
 #![tactic(auto)]
+
 ghost use Rattle.std.specs.Prelude.{◌≡◌, ℕ, ◌+◌, ◌≤◌, ◌<◌, length};
 ghost use Rattle.basis.specs.Weighing.{Grounded, weight_size};
 ghost use Rattle.strips.specs.Strips.{StripInside, Tapped, Ringed, RingInRange, row_cell};
