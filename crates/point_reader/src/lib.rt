@@ -1,5 +1,6 @@
 // The point file's reader: it accepts exactly the files of point lists in bounds.
 #![tactic(auto)]
+
 ghost use Rattle.std.specs.Prelude.{◌≡◌, ◌+◌, ◌≤◌, length};
 ghost use Rattle.algebra.specs.Table.{over, tabulate};
 ghost use Rattle.rules.specs.Answers.{outcome};

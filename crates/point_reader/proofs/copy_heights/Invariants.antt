@@ -1,12 +1,11 @@
--- `point_reader::copy_heights` meets its contract. The loop's invariant: the slice is filled up to i with the heights that stand in the records.
-use mathlib.Core.Path.{◌≡◌}
-use Prim.Native.Nat.{◌-◌, ◌≤◌}
+-- The loop's invariant: the slice is filled up to i with the heights that stand in the records.
+use Rattle.std.proofs.Common.{◌≡◌, ◌-◌, ◌≤◌}
 use Rattle.algebra.specs.Table.{tabulate, over}
 use Rattle.rules.specs.PointFile.{file_z}
 use Rattle.point_reader.proofs.copy_heights.Given as goal
 
-abbrev pub invariant-loop : goal.invariant-loop
-invariant-loop l = (l.i ≤ l.p) × (l.out ≡ over (tabulate l.i (file_z l.file)) l.initial.out)
+abbrev pub invariant-loop-i : goal.invariant-loop-i
+invariant-loop-i l = (l.i ≤ l.p) × (l.out ≡ over (tabulate l.i (file_z l.file)) l.initial.out)
 
-abbrev pub decreases-loop : goal.decreases-loop
-decreases-loop l = l.p - l.i
+abbrev pub decreases-loop-i : goal.decreases-loop-i
+decreases-loop-i l = l.p - l.i
