@@ -1,5 +1,6 @@
 // The lattice file's reader: it accepts exactly the files of lattices in bounds.
 #![tactic(auto)]
+
 ghost use Rattle.std.specs.Prelude.{◌≡◌, ◌+◌, ◌*◌, ◌≤◌, length};
 ghost use Rattle.algebra.specs.Table.{over};
 ghost use Rattle.rules.specs.Grid.{controls};

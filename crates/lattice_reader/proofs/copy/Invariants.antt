@@ -1,12 +1,20 @@
--- `lattice_reader::copy` meets its contract. The loop's invariant: the control values of the rows passed stand over the output's first places.
-use mathlib.Core.Path.{◌≡◌}
-use Prim.Native.Nat.{◌+◌, ◌*◌, ◌-◌, ◌≤◌}
-use lib.ListN.{length}
+-- The loop's invariant: the control values of the rows passed stand over the output's first places.
+use Rattle.std.proofs.Common.{◌≡◌, List, ℕ, ◌+◌, ◌*◌, ◌-◌, ◌/◌, ◌%◌, ◌≤◌, ℤ, length}
 use Rattle.algebra.specs.Table.{tabulate, over}
+use Rattle.rules.specs.Grid.{Lattice}
+use Rattle.rules.specs.Bytes.{value_at}
+use Rattle.rules.specs.LatticeFile.{row_start}
 use Rattle.lattice_reader.proofs.copy.Given as goal
 
-abbrev pub invariant-loop : goal.invariant-loop
-invariant-loop l = (l.r ≤ l.n + 3) × (length l.output ≡ length l.initial.output) × (l.output ≡ over (tabulate (l.r * (l.m + 3)) (stored l.file l.m)) l.initial.output)
+-- the control values, by column and row and by place
+abbrev pub value : List ℕ → ℕ → Lattice
+value file m s t = value_at file (row_start m t + 4 + 8 * s)
 
-abbrev pub decreases-loop : goal.decreases-loop
-decreases-loop l = l.n + 3 - l.r
+abbrev pub stored : List ℕ → ℕ → ℕ → ℤ
+stored file m q = value file m (q % (m + 3)) (q / (m + 3))
+
+abbrev pub invariant-loop-r : goal.invariant-loop-r
+invariant-loop-r l = (l.r ≤ l.n + 3) × (length l.output ≡ length l.initial.output) × (l.output ≡ over (tabulate (l.r * (l.m + 3)) (stored l.file l.m)) l.initial.output)
+
+abbrev pub decreases-loop-r : goal.decreases-loop-r
+decreases-loop-r l = l.n + 3 - l.r
