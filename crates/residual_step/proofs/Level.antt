@@ -1,9 +1,7 @@
 -- What the sums in scratch settle to, once every point is added: the rule's control values, and which of them are refused.
 -- A caller of `gather` and `settle_all` takes the level lattice from values_table and the refusal from refused_table.
-use Prim.Native.Nat.{ℕ, ◌+◌, ◌/◌, ◌%◌, ◌<◌}
-use mathlib.Core.Path.{◌≡◌, ap, ◌∙◌}
-use mathlib.Core.List.{List}
-use lib.Ieee.{Float}
+use Rattle.std.proofs.Common.{ℕ, ◌+◌, ◌/◌, ◌%◌, ◌<◌, ◌≡◌, ap, ◌∙◌, List}
+use Rattle.std.specs.Float.Ieee.{Float}
 use Rattle.algebra.specs.Table.{tabulate, over, tabulate_same}
 use Rattle.rules.specs.Answers as answer
 use Rattle.rules.specs.Grid.{controls, store}

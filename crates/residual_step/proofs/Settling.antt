@@ -1,14 +1,6 @@
 -- The first half of a level: what `gather`, `settle_all` and `lower` leave is the level lattice of the rules and the residuals less its heights.
-use mathlib.Core.Path.{◌≡◌, sym, ap, ◌∙◌}
-use mathlib.Core.Bool.{Bool}
-use mathlib.Core.List.{List, ◌++◌}
-use mathlib.Core.Logic.{inl}
-use Prim.Native.Nat.{ℕ, suc, ◌+◌, ◌-◌, ◌*◌, ◌^◌, ◌≤◌}
-use native.Mathlib.Omega.{arith}
-use lib.Dec.{T}
-use lib.Ieee.{Float}
-use lib.IntN.{ℤ}
-use lib.ListN.{length, take, drop}
+use Rattle.std.proofs.Common.{◌≡◌, sym, ap, ◌∙◌, Bool, List, ◌++◌, inl, ℕ, suc, ◌+◌, ◌-◌, ◌*◌, ◌^◌, ◌≤◌, arith, T, ℤ, length, take, drop}
+use Rattle.std.specs.Float.Ieee.{Float}
 use Rattle.algebra.specs.Table.{Free, over, laid, area, tabulate, length_tabulate, tabulate_same, laid_part, area_part, area_laid, free_part, free_area, free_wider, free_over}
 use Rattle.rules.specs.Answers.{require, first_of, range_check, quotient, residual}
 use Rattle.rules.specs.Grid.{controls}
@@ -51,7 +43,7 @@ module _ {a : Shape} {s : Survey} {most k m n e : ℕ} {whole : List ℤ} {F : �
 
   -- the residuals as they are lent
   lent_is : part_at (3 * most) (point_count s) whole ≡ residuals a s k
-  lent_is = area_part (3 * most) (point_count s) whole ∙ b.before.residuals-there.is
+  lent_is = area_part (3 * most) (point_count s) whole ∙ b.before.residuals_there.is
 
   -- what `gather` asks
   pub fittable : Fittable m n e (valued s (part_at (3 * most) (point_count s) whole))
@@ -108,7 +100,7 @@ module _ {a : Shape} {s : Survey} {most k m n e : ℕ} {whole : List ℤ} {F : �
 
   module _ {now : List ℤ} (h : Halfway a s most k k now) (room : 3 * most + point_count s ≤ length now) where
     level_at : area (2 * most) (controls m n) now ≡ level a s k
-    level_at = rw (b.celled.m_is, b.celled.n_is) h.level-there.is
+    level_at = rw (b.celled.m_is, b.celled.n_is) h.level_there.is
 
     -- what `lower` asks
     pub lowerable : Lowerable m n e s.xs s.ys now (2 * most) (3 * most)
@@ -121,12 +113,12 @@ module _ {a : Shape} {s : Survey} {most k m n e : ℕ} {whole : List ℤ} {F : �
       apart = omega (arith, b);
       room = room;
       level_ranged = rw (level_at, count_is b.celled) (level_ranged a s k);
-      residuals_ranged = rw h.residuals-there.is h.residuals-there.ranged;
+      residuals_ranged = rw h.residuals_there.is h.residuals_there.ranged;
     }
 
     lowered_is : less_heights m n e (area (2 * most) (controls m n) now) s.xs s.ys (area (3 * most) (point_count s) now) ≡ residuals a s (suc k)
     unfolding less_heights residuals lowered level_height level
-    lowered_is = tabulate_same (point_count s) _ _ (λ i l. rw (level_at, h.residuals-there.is, b.unit_is, b.celled.m_is, b.celled.n_is))
+    lowered_is = tabulate_same (point_count s) _ _ (λ i l. rw (level_at, h.residuals_there.is, b.unit_is, b.celled.m_is, b.celled.n_is))
 
     -- what it finds and leaves
     module _ {ok : Bool} {last : List ℤ}
@@ -140,8 +132,8 @@ module _ {a : Shape} {s : Survey} {most k m n e : ℕ} {whole : List ℤ} {F : �
           judged (residual k) (ap (λ v. range_check (point_count s) v (λ i. residual k)) (sym lowered_is) ∙ w.found (residual k)) e
           (λ t r. record {
             level_there = record {
-              is = free_area w.free room (2 * most) (places a k) (inl (omega (arith, few b.celled k (omega arith)))) ∙ h.level-there.is;
-              running_before = λ j l. running_kept w.free room (h.level-there.running_before j l) (few b.celled j (omega arith)) (omega arith);
+              is = free_area w.free room (2 * most) (places a k) (inl (omega (arith, few b.celled k (omega arith)))) ∙ h.level_there.is;
+              running_before = λ j l. running_kept w.free room (h.level_there.running_before j l) (few b.celled j (omega arith)) (omega arith);
             };
             residuals_there = record {
               is = ap (area (3 * most) (point_count s)) (w.is t ∙ ap (λ v. laid (3 * most) v now) lowered_is)

@@ -1,5 +1,6 @@
 // The first half of a level: its lattice, and the residuals less its heights.
 #![tactic(auto)]
+
 ghost use Rattle.std.specs.Prelude.{List, ◌+◌, ◌*◌, ℤ, length};
 ghost use Rattle.algebra.specs.Table.{Free};
 ghost use Rattle.rules.specs.Fit as rule;
