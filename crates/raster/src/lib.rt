@@ -1,5 +1,6 @@
 // Rasters: the heights of columns × rows nodes, row by row, worked in strips of 64 columns.
 #![tactic(auto)]
+
 ghost use Rattle.std.specs.Prelude.{◌≡◌, ◌*◌, ◌^◌, ◌<◌, List, ℤ, length};
 ghost use Rattle.algebra.specs.Table.{tabulate, over};
 ghost use Rattle.rules.specs.Answers.{outcome};
