@@ -1,6 +1,5 @@
 -- The nodes of a rectangle as those of its strips: what strips have shown of rows and columns tells the answer.
 use mathlib.Core.Path.{◌≡◌, sym, ap, ap₂, ◌∙◌}
-use mathlib.Core.Logic.{◌↔◌}
 use mathlib.Core.Bool.{true, false}
 use mathlib.Core.List.{List}
 use Prim.Native.Nat.{ℕ, ◌+◌, ◌-◌, ◌*◌, ◌/◌, ◌%◌, ◌^◌, ◌≤◌, ◌<◌}
@@ -10,15 +9,14 @@ use native.Mathlib.Omega.{arith}
 use lib.IntN.{ℤ}
 use lib.Signed.{◌≤ℤ◌, ◌<ℤ◌}
 use Rattle.rules.specs.Grid.{control}
-use Rattle.rules.specs.Rounding.{near}
-use Rattle.rules.specs.Surface.{denominator, height}
+use Rattle.rules.specs.Surface.{height}
 use Rattle.rules.specs.Calls.{Nodes, nodes_at, node_x, node_y, node_height}
 use Rattle.rules.specs.Above.{any_above}
 use Rattle.rules.specs.Laws.Above.{any_of_some, any_of_none, above_yes, above_no}
-use Rattle.strips.specs.Strips.{strip_at, StripInside}
-use Rattle.strips.specs.Reading.{strip_inside, strip_width}
+use Rattle.strips.specs.Strips.{strip_at}
+use Rattle.strips.specs.Reading.{strip_width}
 use Rattle.strips.specs.declared.Strip.{Strip}
-use Rattle.bands.specs.Bands.{RowsInside, NodeAbove, NodesBelow, Threshold}
+use Rattle.bands.specs.Bands.{NodeAbove, NodesBelow}
 use Rattle.above.specs.Inspectable.{Inspectable}
 
 module _ (m n U : ℕ) (l : List ℤ) (x0 y0 step columns rows : ℕ) (stage : ℤ) where
@@ -55,9 +53,6 @@ module _ (m n U : ℕ) (l : List ℤ) (x0 y0 step columns rows : ℕ) (stage : �
       here q h (yes c) = below.low (q / columns) (q % columns) ((div-lt_iff_lt-mul {k = columns} c).1 (rw (mul_comm rows columns) h)) (mod-lt q c)
       here q h (no c) = let none : columns ≡ 0 = omega arith in absurd (omega (arith, rw none at h))
 
-  pub no_columns : ColumnsBelow 0
-  no_columns = record { low = λ j c h k. absurd (omega (arith, k)) }
-
   pub no_rows : rows ≡ 0 → false ≡ any_above m n U l g stage
   no_rows e = none_above (record { low = λ j c h k. absurd (omega (arith, e, h)) })
 
@@ -65,12 +60,6 @@ module _ (m n U : ℕ) (l : List ℤ) (x0 y0 step columns rows : ℕ) (stage : �
 
 module _ {m n e : ℕ} {l : List ℤ} {x0 y0 step columns rows : ℕ} {stage : ℤ} (s : Inspectable m n e l (nodes_at x0 y0 step columns rows) stage) (some : 0 < rows)
     {column : ℕ} {strip : Strip} (is : strip ≡ strip_at m n e x0 y0 step columns column) (starts : column < columns) where
-  pub above_strip : StripInside strip
-  above_strip = strip_inside is s.grounded.grid (s.inside.along_x some) starts
-
-  pub rows_inside : RowsInside strip rows
-  rows_inside = rw is (record { inside = λ j h. s.inside.along_y (omega arith) j h })
-
   pub strip_high : {z : ℤ} → z ≡ stage → NodeAbove strip l z 0 rows 0 strip.w → true ≡ any_above m n (2 ^ e) l (nodes_at x0 y0 step columns rows) stage
   strip_high here a =
       some_above m n (2 ^ e) l x0 y0 step columns rows stage a.j (column + a.i) a.j_b (omega (arith, strip_width is, a.i_to, starts)) (rw (is, here) at a.high)
@@ -88,11 +77,6 @@ module _ {m n e : ℕ} {l : List ℤ} {x0 y0 step columns rows : ℕ} {stage : �
                   rw (is, same) at (b.low j i (omega arith) h (omega arith) (omega arith))
             ];
       }
-
--- what `most_under` returned, read back, is the strip's threshold
-pub threshold : {m n e x0 y0 step columns column : ℕ} {strip : Strip} {stage most bits : ℤ} → strip ≡ strip_at m n e x0 y0 step columns column → bits ≡ most
-    → ((v : ℤ) → (stage <ℤ near v (denominator (2 ^ e))) ↔ (most <ℤ v)) → Threshold stage strip.e bits
-threshold is read t = rw (is, read) (record { from = t })
 
 -- after the last strip, of the stage that the bits stand for
 pub all_below : (m n U : ℕ) (l : List ℤ) (x0 y0 step columns rows : ℕ) {z stage : ℤ} (column : ℕ) → z ≡ stage → columns ≤ column

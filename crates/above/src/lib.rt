@@ -1,5 +1,6 @@
 // Does any ground stand above a stage: the raster's answer for a rectangle of nodes, worked in strips of 64 columns, with no raster written.
 #![tactic(auto)]
+
 ghost use Rattle.std.specs.Prelude.{◌≡◌, ◌^◌, ◌<◌};
 ghost use Rattle.rules.specs.Above as rule;
 ghost use Rattle.rules.specs.Calls as calls;
