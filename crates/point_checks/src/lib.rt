@@ -1,5 +1,6 @@
 // The checks of a survey's points, which the fit and the point writer share: each one's position, height and confidence. The fit's base is taken from the pass over the heights.
 #![tactic(auto)]
+
 ghost use Rattle.std.specs.Prelude.{◌≡◌, false, ◌≤◌, length};
 ghost use Rattle.rules.specs.Answers.{answer, first_of};
 ghost use Rattle.rules.specs.Fit.{survey, total};
