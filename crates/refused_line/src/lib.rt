@@ -1,5 +1,6 @@
 // The program's line for a refusal, "refused N P".
 #![tactic(auto)]
+
 ghost use Rattle.std.specs.Prelude.{◌≡◌, ◌+◌, ◌≤◌, length};
 ghost use Rattle.algebra.specs.Table.{laid};
 ghost use Rattle.rules.specs.Program.{decimal, refused_line};
