@@ -1,0 +1,6 @@
+-- An interrupted read takes nothing.
+use Rattle.std.specs.Io.KnownBytes.{Keeps}
+use Rattle.curlew.proofs.read_some.Given as goal
+
+abbrev pub invariant-loop : goal.invariant-loop
+invariant-loop g l = Keeps (g.R.Read.remaining l.initial.reader) (g.R.Read.remaining l.reader)
