@@ -1,5 +1,5 @@
 # For the scripts that link the library: which archive, and that there is one. Sourced from the repository's root.
-own_archive=target/staticlib/libcurlewtable.a
+own_archive=crates/curlewtable/out/libcurlewtable.a
 archive=$own_archive
 
 # Builds the repository's own archive if it is missing, and says so if sources have changed since it was built.
@@ -9,8 +9,8 @@ need_archive() {
     elif [[ ! -e $archive ]]; then
         echo "building $archive"
         mkdir -p target
-        rt staticlib curlewtable >target/staticlib.log 2>&1 || { tail -n 20 target/staticlib.log >&2; exit 1; }
+        (cd crates/curlewtable && rt lib) >target/lib.log 2>&1 || { tail -n 20 target/lib.log >&2; exit 1; }
     elif [[ -n $(find crates -path '*/src/*' -newer "$archive" -print -quit) ]]; then
-        echo "note: crates/ has changed since $archive was built; 'rt staticlib curlewtable' builds it again" >&2
+        echo "note: crates/ has changed since $archive was built; 'rt lib' in crates/curlewtable builds it again" >&2
     fi
 }

@@ -1,5 +1,5 @@
 /*
- * A libFuzzer target for the program: any bytes on the standard input of target/bin/curlew (or of the program that the
+ * A libFuzzer target for the program: any bytes on the standard input of crates/curlew/out/curlew (or of the program that the
  * environment names in CURLEW), and what it writes compared with the reference's answer. A difference ends the process,
  * which libFuzzer reports with the input. The reference's coverage guides the fuzzer.
  */
@@ -26,7 +26,7 @@ static void must(int fine, const char *what)
 /* Runs the program on the bytes of a file; the bytes that it wrote, one more than it may at most. */
 static size_t run(FILE *input, uint8_t *output, size_t most)
 {
-    const char *program = getenv("CURLEW") ? getenv("CURLEW") : "target/bin/curlew";
+    const char *program = getenv("CURLEW") ? getenv("CURLEW") : "crates/curlew/out/curlew";
     int ends[2], status;
     size_t length = 0;
     ssize_t got;
