@@ -12,7 +12,8 @@ use Rattle.rules.specs.Grid.{control}
 use Rattle.rules.specs.Surface.{height}
 use Rattle.rules.specs.Calls.{Nodes, nodes_at, node_x, node_y, node_height}
 use Rattle.rules.specs.Above.{any_above}
-use Rattle.rules.specs.Laws.Above.{any_of_some, any_of_none, above_yes, above_no}
+use Rattle.rules.proofs.Laws.AnyOf.{any_of_some, any_of_none}
+use Rattle.rules.proofs.Laws.Above.{above_yes, above_no}
 use Rattle.strips.specs.Strips.{strip_at}
 use Rattle.strips.specs.Reading.{strip_width}
 use Rattle.strips.specs.declared.Strip.{Strip}

@@ -9,9 +9,10 @@ use Rattle.rules.specs.Grid.{limit, control}
 use Rattle.rules.specs.Answers.{Refusal, accepted, refused, outcome}
 use Rattle.rules.specs.Calls.{Nodes, node_x, node_y, node_height, raster_check, raster_call}
 use Rattle.rules.specs.Above.{any_of, above, any_above, above_check, above_answer}
-use Rattle.rules.specs.Laws.Checks.{answer_none, answer_value, none_answer, some_answer, call_unrefused, call_refusal}
-use Rattle.rules.specs.Laws.Passed.{stage_passes}
-use Rattle.rules.specs.Laws.Above.{any_of_same, any_of_found, any_of_each, yes_above, no_above, above_falls, low_ground, stage_checked, raster_check_lem}
+use Rattle.rules.proofs.Laws.Checks.{answer_none, answer_value, none_answer, some_answer, call_unrefused, call_refusal}
+use Rattle.rules.proofs.Laws.Passed.{stage_passes}
+use Rattle.rules.proofs.Laws.AnyOf.{any_of_same, any_of_found}
+use Rattle.rules.proofs.Laws.Above.{any_of_each, yes_above, no_above, above_falls, low_ground, stage_checked, raster_check_lem}
 use Rattle.answers.specs.CountTold as counted
 use Rattle.answers.specs.declared.CountTold.{CountTold}
 use Rattle.heights.specs.Promises.{height_passed}

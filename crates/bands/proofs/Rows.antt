@@ -5,7 +5,7 @@ use native.Mathlib.Nat.{mul-le-mul, mul-le-mul_left, mul_comm, mod-eq_of_lt, le-
 use native.Mathlib.Omega.{arith}
 use lib.Pow.{pow_pos, pow_mono}
 use Rattle.rules.specs.Surface.{cell}
-use Rattle.rules.specs.Laws.Basis.{cell_below, cell_mono}
+use Rattle.rules.proofs.Laws.Basis.{cell_below, cell_mono}
 use Rattle.strips.specs.Strips.{StripInside, row_cell}
 use Rattle.strips.specs.declared.Strip.{Strip}
 use Rattle.bands.specs.Bands.{Band}

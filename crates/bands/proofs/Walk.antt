@@ -9,8 +9,8 @@ use lib.IntN.{ℤ}
 use lib.ListN.{length, get_or}
 use lib.Pow.{pow_pos}
 use Rattle.rules.specs.Grid.{controls, control}
-use Rattle.rules.specs.Laws.Basis.{cell_below, cell_mono}
-use Rattle.rules.specs.Laws.Surface.{height_most}
+use Rattle.rules.proofs.Laws.Basis.{cell_below, cell_mono}
+use Rattle.rules.proofs.Laws.Surface.{height_most}
 use Rattle.below.specs.Below.{RowsBelow, Rising, Apart, CellsBelow}
 use Rattle.below.specs.declared.Due.{Due}
 use Rattle.strips.specs.Strips.{column_x, Tapped, Ringed, row_cell}

@@ -8,9 +8,9 @@ use Rattle.machine.specs.Held.{Held, read, returned, small}
 use Rattle.rules.specs.Rounding.{near}
 use Rattle.rules.specs.Grid.{controls, control}
 use Rattle.rules.specs.Surface.{numerator, denominator, cell, offset, weighted, along, height}
-use Rattle.rules.specs.Laws.Rounding.{near_within}
-use Rattle.rules.specs.Laws.Basis.{weighted_values, weighted_bound, numerators_size, cell_below, offset_within, along_bound}
-use Rattle.rules.specs.Laws.Surface.{denominator_positive, place_below, control_within}
+use Rattle.rules.proofs.Laws.Rounding.{near_within}
+use Rattle.rules.proofs.Laws.Basis.{weighted_values, weighted_bound, numerators_size, cell_below, offset_within, along_bound}
+use Rattle.rules.proofs.Laws.Surface.{denominator_positive, place_below, control_within}
 use Rattle.basis.specs.Weighing.{Holds, Located, four, numerators, weight_size, spaced, Summable, Weighable, line_height, Grounded, Readable}
 use Rattle.basis.specs.declared.Basis.{Basis}
 use Rattle.basis.specs.declared.Spot.{Spot}

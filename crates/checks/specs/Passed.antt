@@ -5,8 +5,9 @@ use Rattle.std.proofs.Math.Option.{none, some}
 use Rattle.rules.specs.Grid.{controls}
 use Rattle.rules.specs.Answers.{Check, require, short}
 use Rattle.rules.specs.Calls.{lattice_check}
-use Rattle.rules.specs.Laws.Checks.{required, then_first, then_rest, AllInRange}
-use Rattle.rules.specs.Laws.Passed.{lattice_passed}
+use Rattle.rules.specs.Laws.Checks.{AllInRange}
+use Rattle.rules.proofs.Laws.Checks.{required, then_first, then_rest}
+use Rattle.rules.proofs.Laws.Passed.{lattice_passed}
 use Rattle.answers.specs.Cause.{cause}
 use Rattle.answers.specs.declared.Refusal.{Refusal}
 use Rattle.checks.specs.Ready.{stored_check, ready_check, Tells}

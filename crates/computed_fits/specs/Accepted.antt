@@ -23,10 +23,11 @@ use Rattle.rules.specs.Fit.{Shape, shape, columns, rows, unit_of, Survey, survey
 use Rattle.rules.specs.Fit.{level_value, or_zero, level_of, level_height, lowered, raised, residuals, level, running, single_lattice, last_residuals}
 use Rattle.rules.specs.Fit.{present, quotient_check, residual_check, sum_check, level_check, levels_check, difference_check, final_check, in_levels_check}
 use Rattle.rules.specs.Answers.{require, ◌then◌, first_of, range_check, range, accepted, outcome}
-use Rattle.rules.specs.Laws.Rounding.{near_exact}
-use Rattle.rules.specs.Laws.Checks.{require_met, size_in_range, then_none, first_of_all, size_range_check}
-use Rattle.rules.specs.Laws.Base.{no_base}
-use Rattle.rules.specs.Laws.Passed.{Surveyed, surveyed_passes}
+use Rattle.rules.proofs.Laws.Rounding.{near_exact}
+use Rattle.rules.proofs.Laws.Checks.{require_met, size_in_range, then_none, first_of_all, size_range_check}
+use Rattle.rules.proofs.Laws.Base.{no_base}
+use Rattle.rules.specs.Laws.Passed.{Surveyed}
+use Rattle.rules.proofs.Laws.Passed.{surveyed_passes}
 use Rattle.rules.specs.Calls.{Lent, K, cells_check, h_check, lists_check, survey_check, spot_check, point_check, points_check, lent_check, fit_check, finest, results, cleared, fit_end, fit_call}
 
 -- n control values of 0

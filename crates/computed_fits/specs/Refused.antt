@@ -15,9 +15,9 @@ use Rattle.rules.specs.Fit.{level_value, or_zero, level_of, level_height, lowere
 use Rattle.rules.specs.Fit.{present, quotient_check, residual_check, sum_check, level_check, levels_check, difference_check, final_check, in_levels_check}
 use Rattle.rules.specs.Answers.{Refusal, Check, require, ◌then◌, first_of, range_check, range, confidence, difference, quotient, residual, sum, refused, outcome}
 use Rattle.rules.specs.Calls.{Lent, cells_check, h_check, lists_check, survey_check, spot_check, point_check, points_check, lent_check, fit_check, cleared, fit_end, fit_call}
-use Rattle.rules.specs.Laws.Checks.{then_none, then_some}
-use Rattle.rules.specs.Laws.Fit.{first_sums}
-use Rattle.rules.specs.Laws.Refused.{early_check, grouped, in_levels_only}
+use Rattle.rules.proofs.Laws.Checks.{then_none, then_some}
+use Rattle.rules.proofs.Laws.Fit.{first_sums}
+use Rattle.rules.proofs.Laws.Refused.{early_check, grouped, in_levels_only}
 use Rattle.computed_fits.specs.Accepted.{ones, one}
 
 -- ---- a difference: "15 with the point's index and every slice left"

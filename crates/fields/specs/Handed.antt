@@ -3,7 +3,7 @@ use Rattle.std.specs.Prelude.{◌≡◌, refl, ℤ}
 use Rattle.std.proofs.Common.{sym, ap, ◌∙◌}
 use Rattle.rules.specs.Answers.{Answer, accepted, refused, Outcome, outcome}
 use Rattle.rules.specs.Calls.{CellCounts}
-use Rattle.rules.specs.Laws.Checks.{number_some}
+use Rattle.rules.proofs.Laws.Checks.{number_some}
 use Rattle.fields.specs.Fields.{handed, in_fields, cells_fields, stage_fields}
 use Rattle.fields.specs.declared.CellsAnswer.{CellsAnswer}
 use Rattle.fields.specs.declared.StageAnswer.{StageAnswer}

@@ -17,10 +17,12 @@ use Rattle.rules.specs.Fit.{Shape, columns, rows, Survey, point_count, base, fro
 use Rattle.rules.specs.Answers.{Refusal, short, Check, ◌then◌, Answer, refused, answer, outcome}
 use Rattle.rules.specs.Calls.{CellCounts, Lent, lent, K, survey_check, room_check, lent_check, points_check, cleared, fit_end, fit_call}
 use Rattle.rules.specs.Demand3.{Demand3}
-use Rattle.rules.specs.Laws.Checks.{required, then_first, then_rest, AllInRange, answer_none, answer_value, answer_refused}
-use Rattle.rules.specs.Laws.Passed.{Sides, Surveyed, level_sides, points_passed, based_surveyed, based_placed, controls_fit}
-use Rattle.rules.specs.Laws.Refused.{early_check, grouped, early_only}
-use Rattle.rules.specs.Laws.Distance.{demand3}
+use Rattle.rules.specs.Laws.Checks.{AllInRange}
+use Rattle.rules.proofs.Laws.Checks.{required, then_first, then_rest, answer_none, answer_value, answer_refused}
+use Rattle.rules.specs.Laws.Passed.{Sides, Surveyed}
+use Rattle.rules.proofs.Laws.Passed.{level_sides, points_passed, based_surveyed, based_placed, controls_fit}
+use Rattle.rules.proofs.Laws.Refused.{early_check, grouped, early_only}
+use Rattle.rules.proofs.Laws.Distance.{demand3}
 use Rattle.answers.specs.Cause.{cause}
 use Rattle.answers.specs.declared.Refusal as coded
 use Rattle.base.specs.Told.{told}

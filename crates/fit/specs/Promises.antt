@@ -8,11 +8,15 @@ use Rattle.std.proofs.Math.Option.{some}
 use Rattle.rules.specs.Fit.{Shape, Survey, point_count, AllOne}
 use Rattle.rules.specs.Answers.{Refusal, number, place, refused, Outcome, outcome}
 use Rattle.rules.specs.Calls.{CellCounts, Lent, lent_check, cleared, fit_check, fit_end, fit_call}
-use Rattle.rules.specs.Laws.Checks.{of_levels, in_levels_lem}
-use Rattle.rules.specs.Laws.Passed.{fit_refused}
-use Rattle.rules.specs.Laws.Refused as law
-use Rattle.rules.specs.Laws.Confidence.{earlier_call, call_as_earlier}
-use Rattle.rules.specs.Laws.Negation.{upside_down, Overturned, negation}
+use Rattle.rules.specs.Laws.Checks.{of_levels}
+use Rattle.rules.proofs.Laws.Checks.{in_levels_lem}
+use Rattle.rules.proofs.Laws.Passed.{fit_refused}
+use Rattle.rules.specs.Laws.Refused.{WhichFigure}
+use Rattle.rules.proofs.Laws.Refused as law
+use Rattle.rules.specs.Laws.Confidence.{earlier_call}
+use Rattle.rules.proofs.Laws.Confidence.{call_as_earlier}
+use Rattle.rules.specs.Laws.Negation.{upside_down, Overturned}
+use Rattle.rules.proofs.Laws.Negation.{negation}
 use Rattle.answers.specs.CellsTold.{told}
 use Rattle.answers.specs.declared.CellsTold.{CellsTold}
 
@@ -20,7 +24,7 @@ module _ (a : Shape) (s : Survey) (lent after : Lent) (r : CellsTold) (rules : o
   refuses : fit_check a s lent ≡ some f
   refuses = fit_refused a s lent f (sym (ap (λ (o : Outcome CellCounts Lent). o.answered) rules) ∙ is)
 
-  pub which_figure : law.WhichFigure a s (number f) (place f)
+  pub which_figure : WhichFigure a s (number f) (place f)
   which_figure = law.which_figure a s lent f refuses
 
   -- after 7, 13 and 14 the scratch is zero, and lattice and residuals are as they were; after every other refusal, 15 and 17 among them, everything is

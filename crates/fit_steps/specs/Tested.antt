@@ -4,7 +4,8 @@ use Rattle.std.proofs.Common.{sym, ap, subst, ◌∙◌, arith}
 use Rattle.std.proofs.lemmas.Bool.{not-true, not-false}
 use Rattle.algebra.specs.Table.{Free, tabulate, length_tabulate, get_d_tabulate, free_laid}
 use Rattle.rules.specs.Grid.{in_range}
-use Rattle.rules.specs.Laws.Checks.{NoneOut, none_out_start, none_out_more, none_out_at}
+use Rattle.rules.specs.Laws.Checks.{NoneOut}
+use Rattle.rules.proofs.Laws.Checks.{none_out_start, none_out_more, none_out_at}
 use Rattle.algebra.specs.Partly.{Partly, begun, stored, finished}
 use Rattle.fit_steps.specs.Steps.{Written}
 

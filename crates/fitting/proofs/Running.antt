@@ -14,9 +14,10 @@ use Rattle.rules.specs.Level.{zero64}
 use Rattle.rules.specs.Fit.{Shape, columns, rows, Survey, survey, base, shifted, differences, from_base, single_lattice, last_residuals, final_check, in_levels_check}
 use Rattle.rules.specs.Answers.{Refusal, sum, Check, range_check, accepted, refused, outcome}
 use Rattle.rules.specs.Calls.{lent, K, results, cleared, fit_end}
-use Rattle.rules.specs.Laws.Base.{length_differences}
-use Rattle.rules.specs.Laws.Checks.{AllInRange, then_none, then_some}
-use Rattle.rules.specs.Laws.Refused.{in_levels_only}
+use Rattle.rules.proofs.Laws.Base.{length_differences}
+use Rattle.rules.specs.Laws.Checks.{AllInRange}
+use Rattle.rules.proofs.Laws.Checks.{then_none, then_some}
+use Rattle.rules.proofs.Laws.Refused.{in_levels_only}
 use Rattle.answers.specs.Cause.{ok_check}
 use Rattle.scratch.specs.Scratch.{Levelable, survey_at, Levelled, area_within}
 

@@ -12,7 +12,8 @@ use Rattle.algebra.specs.Size.{nat_abs_neg}
 use Rattle.rules.specs.Grid.{limit}
 use Rattle.rules.specs.Rounding.{near}
 use Rattle.rules.specs.Level.{signed}
-use Rattle.rules.specs.Laws.Rounding.{Tie, odd, near_nearest, nearest_unique, near_odd, middle, near_above}
+use Rattle.rules.specs.Laws.Rounding.{Tie, odd, middle}
+use Rattle.rules.proofs.Laws.Rounding.{near_nearest, nearest_unique, near_odd, near_above}
 use Rattle.float_near.proofs.WholeRange.{closest_nearest}
 
 pub closest_near : (a d : ℕ) → 0 < d → pos (closest a d) ≡ near (pos a) d

@@ -8,10 +8,12 @@ use Rattle.rules.specs.Grid.{limit, inside, controls, control}
 use Rattle.rules.specs.Surface.{surface, height}
 use Rattle.rules.specs.Answers.{require, short, position, accepted}
 use Rattle.rules.specs.Calls.{cells_check, unit_check, lattice_check, height_check, height_answer}
-use Rattle.rules.specs.Laws.Checks.{required, then_both, then_rest, answer_none, answer_value}
-use Rattle.rules.specs.Laws.Surface.{Inside, Bounded, full, control_within, height_within, height_distance}
-use Rattle.rules.specs.Laws.Passed.{cells_passed, unit_positive, lattice_passed}
-use Rattle.rules.specs.Laws.Negation.{negated, with_value, height_call}
+use Rattle.rules.proofs.Laws.Checks.{required, then_both, then_rest, answer_none, answer_value}
+use Rattle.rules.specs.Laws.Surface.{Inside, Bounded, full}
+use Rattle.rules.proofs.Laws.Surface.{control_within, height_within, height_distance}
+use Rattle.rules.proofs.Laws.Passed.{cells_passed, unit_positive, lattice_passed}
+use Rattle.rules.specs.Laws.Negation.{negated, with_value}
+use Rattle.rules.proofs.Laws.Negation.{height_call}
 use Rattle.heights.specs.Reading.{told}
 use Rattle.heights.specs.declared.Reading.{Reading}
 

@@ -4,7 +4,7 @@ use Rattle.std.proofs.Common.{◌∙◌, mul-le-mul_right, arith, length-append}
 use Rattle.algebra.specs.Table.{joined, length_area, area_part, length_joined}
 use Rattle.rules.specs.Grid.{controls, control}
 use Rattle.rules.specs.Bytes.{bytes_of, value_bytes}
-use Rattle.rules.specs.Laws.Bytes.{length_bytes_of, length_value_bytes}
+use Rattle.rules.proofs.Laws.Bytes.{length_bytes_of, length_value_bytes}
 use Rattle.rules.specs.LatticeFile.{LR, row_record, row_length, row_start}
 
 -- row r of n rows of length k

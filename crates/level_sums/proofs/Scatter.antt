@@ -11,9 +11,9 @@ use Rattle.algebra.specs.Table.{tabulate, over, laid, length_tabulate, get_d_tab
 use Rattle.rules.specs.Grid.{controls}
 use Rattle.rules.specs.Surface.{cell}
 use Rattle.rules.specs.Level as rule
-use Rattle.rules.specs.Laws.Basis.{cell_below}
-use Rattle.rules.specs.Laws.Surface.{place_below}
-use Rattle.rules.specs.Laws.Passed.{controls_fit}
+use Rattle.rules.proofs.Laws.Basis.{cell_below}
+use Rattle.rules.proofs.Laws.Surface.{place_below}
+use Rattle.rules.proofs.Laws.Passed.{controls_fit}
 use Rattle.weights.specs.Block.{weight_at, point_block, weight_is, squares_are}
 use Rattle.level_sums.specs.Pairs.{pair_path, length_paired, pair_over}
 use Rattle.point_sums.specs.Sums.{pair_at, row, rows}

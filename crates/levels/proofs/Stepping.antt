@@ -13,7 +13,7 @@ use Rattle.rules.specs.Answers.{Refusal, Check, ◌then◌, first_of}
 use Rattle.rules.specs.Grid.{cells_at}
 use Rattle.rules.specs.Fit.{Shape, columns, rows, unit_of, Survey, point_count, residuals, level_check, levels_check, quotient_check, residual_check, sum_check}
 use Rattle.rules.specs.Calls.{K}
-use Rattle.rules.specs.Laws.Checks.{then_none, then_assoc, first_of_at}
+use Rattle.rules.proofs.Laws.Checks.{then_none, then_assoc, first_of_at}
 use Rattle.scratch.specs.Scratch.{Levelable, survey_at, Before, LevelReady, RunningThere, Judged, FirstHalf, SecondHalf, WholeLevel, Levelled}
 use Rattle.scratch.specs.Sizes.{celled, unit_is, span}
 use Rattle.scratch.specs.Judging.{judged_refused, first_refused, then_judged}

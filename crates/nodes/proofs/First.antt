@@ -7,7 +7,7 @@ use native.Mathlib.Omega.{arith}
 use borrow.Author.Tests.{le-leb, lt-leb}
 use Rattle.rules.specs.Answers.{Check, require, position, first_of}
 use Rattle.rules.specs.Calls.{Nodes, nodes_at, node_x, node_y, node_check, nodes_check}
-use Rattle.rules.specs.Laws.Checks.{first_of_all, first_of_at}
+use Rattle.rules.proofs.Laws.Checks.{first_of_all, first_of_at}
 
 -- ---- steps of one axis: as many as fit between the first position and the last
 

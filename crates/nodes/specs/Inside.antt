@@ -5,8 +5,8 @@ use Rattle.std.proofs.Common.{mod-eq_of_lt, mul_comm, mul-div_cancel, mul-le-mul
 use Rattle.std.proofs.Math.Facts.{and_yes}
 use Rattle.rules.specs.Answers.{size, position, require}
 use Rattle.rules.specs.Calls.{Nodes, node_x, node_y, counts_check, size_check, node_check, nodes_check}
-use Rattle.rules.specs.Laws.Checks.{required, then_rest, first_of_none}
-use Rattle.rules.specs.Laws.Passed.{counts_passed}
+use Rattle.rules.proofs.Laws.Checks.{required, then_rest, first_of_none}
+use Rattle.rules.proofs.Laws.Passed.{counts_passed}
 
 pub size_passed : (step columns rows : ℕ) → size_check step columns rows ≡ none → (columns ≤ 8_193) × (rows ≤ 8_193)
 unfolding size_check

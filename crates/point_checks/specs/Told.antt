@@ -3,7 +3,7 @@ use Rattle.std.specs.Prelude.{◌≡◌, ℤ}
 use Rattle.std.proofs.Common.{sym, ap, ◌∙◌}
 use Rattle.std.proofs.Math.Option.{none, some}
 use Rattle.rules.specs.Answers as rule
-use Rattle.rules.specs.Laws.Checks.{answer_none, answer_value, answer_refused}
+use Rattle.rules.proofs.Laws.Checks.{answer_none, answer_value, answer_refused}
 use Rattle.answers.specs.Cause.{cause}
 use Rattle.answers.specs.declared.Refusal.{Refusal}
 use Rattle.point_checks.specs.declared.PointsTold.{PointsTold}

@@ -6,7 +6,7 @@ use borrow.Author.Tests.{le-leb, lt-leb}
 use Rattle.rules.specs.Grid.{in_range, inside, confident}
 use Rattle.rules.specs.Answers.{Check, require, ◌then◌, field}
 use Rattle.rules.specs.Bytes.{number_at, value_at, record_check}
-use Rattle.rules.specs.Laws.Checks.{byte_sure, zero_unsure}
+use Rattle.rules.proofs.Laws.Checks.{byte_sure, zero_unsure}
 use Rattle.rules.specs.PointFile.{Kind, mark_of, size_of, point_start, file_shape, file_x, file_y, file_z, last_number, file_q, point_record_check}
 use Rattle.point_records.specs.declared.Kind as code
 use Rattle.point_records.specs.Read.{ruled, Measured}

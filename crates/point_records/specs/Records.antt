@@ -4,9 +4,10 @@ use Rattle.std.proofs.Common.{ap, ◌∙◌, arith, leb→le}
 use Rattle.std.proofs.Math.Option.{none}
 use Rattle.rules.specs.Bytes.{number_at}
 use Rattle.rules.specs.PointFile.{PH, size_of, point_start, file_shape, file_start, point_head_check}
-use Rattle.rules.specs.Laws.Bytes.{entries, number_at_entries, record_fits}
-use Rattle.rules.specs.Laws.Checks.{required, within_bounds, then_first, then_rest}
-use Rattle.rules.specs.Laws.PointFields.{length_last, start_less}
+use Rattle.rules.specs.Laws.Bytes.{entries}
+use Rattle.rules.proofs.Laws.Bytes.{number_at_entries, record_fits}
+use Rattle.rules.proofs.Laws.Checks.{required, within_bounds, then_first, then_rest}
+use Rattle.rules.proofs.Laws.PointFields.{length_last, start_less}
 use Rattle.point_records.specs.declared.Kind.{Kind}
 use Rattle.point_records.specs.Read.{ruled, Held}
 

@@ -10,7 +10,8 @@ use Rattle.machine.specs.Tests.{plain}
 use Rattle.rules.specs.Bytes.{complement}
 use Rattle.rules.specs.Grid.{limit, in_range}
 use Rattle.rules.specs.Answers.{Refusal, require, ◌then◌, first_of, range_check, short}
-use Rattle.rules.specs.Laws.Checks.{NoneOut, SomeOut, range_check_size, size_range_check}
+use Rattle.rules.specs.Laws.Checks.{NoneOut, SomeOut}
+use Rattle.rules.proofs.Laws.Checks.{range_check_size, size_range_check}
 use Rattle.answers.specs.Cause.{ok_check}
 
 -- what a test of a stored value tells: it was handed the bits of z, read back

@@ -11,10 +11,11 @@ use Rattle.algebra.specs.Table.{tabulate, over, length_tabulate, get_d_tabulate,
 use Rattle.rules.specs.Grid.{limit, inside, controls, control}
 use Rattle.rules.specs.Answers.{require, short, position, size, ◌then◌, accepted, Outcome, outcome}
 use Rattle.rules.specs.Calls.{Nodes, default_step, nodes, cells_check, unit_check, lattice_check, node_x, node_y, node_height, counts_check, size_check, node_check, nodes_check, height_check, raster_check, raster_call}
-use Rattle.rules.specs.Laws.Checks.{required, require_met, then_both, then_rest, first_of_none, call_unrefused, call_value, call_after}
-use Rattle.rules.specs.Laws.Surface.{height_within}
-use Rattle.rules.specs.Laws.Raster.{raster_where, given_raster, given_default}
-use Rattle.rules.specs.Laws.Negation.{negated, Mirrored, raster_call_lem}
+use Rattle.rules.proofs.Laws.Checks.{required, require_met, then_both, then_rest, first_of_none, call_unrefused, call_value, call_after}
+use Rattle.rules.proofs.Laws.Surface.{height_within}
+use Rattle.rules.proofs.Laws.Raster.{raster_where, given_raster, given_default}
+use Rattle.rules.specs.Laws.Negation.{negated, Mirrored}
+use Rattle.rules.proofs.Laws.Negation.{raster_call_lem}
 use Rattle.heights.specs.Promises.{height_passed}
 use Rattle.answers.specs.CountTold.{told}
 use Rattle.answers.specs.declared.CountTold.{CountTold}

@@ -10,7 +10,7 @@ use mir.Val.{to_z, of_z}
 use Rattle.machine.specs.Held.{Held, itself, read}
 use Rattle.rules.specs.Grid.{control}
 use Rattle.rules.specs.Refinement.{masked}
-use Rattle.rules.specs.Laws.Surface.{control_size}
+use Rattle.rules.proofs.Laws.Surface.{control_size}
 use Rattle.refined_rows.specs.Read.{RowsRead}
 
 -- x, y and z hold the values of f that the mask of this parity reads from place c on, none larger than `masked` takes

@@ -12,8 +12,8 @@ use Rattle.rules.specs.Rounding.{near}
 use Rattle.rules.specs.Grid.{limit, controls, control, store}
 use Rattle.rules.specs.Refinement as rule
 use Rattle.rules.specs.Laws.Checks.{AllInRange}
-use Rattle.rules.specs.Laws.Surface.{control_size, at_place}
-use Rattle.rules.specs.Laws.TwoScale.{masked_size, finer_reads, finer_swap}
+use Rattle.rules.proofs.Laws.Surface.{control_size, at_place}
+use Rattle.rules.proofs.Laws.TwoScale.{masked_size, finer_reads, finer_swap}
 use Rattle.refined_rows.specs.Read.{RowsRead}
 
 -- the sum of column s for row t

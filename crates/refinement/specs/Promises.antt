@@ -9,12 +9,15 @@ use Rattle.rules.specs.Grid.{limit, controls, control, store}
 use Rattle.rules.specs.Refinement.{refined}
 use Rattle.rules.specs.Answers.{Refusal, number, accepted, refused, outcome}
 use Rattle.rules.specs.Calls.{CellCounts, refine_check, refine_call}
-use Rattle.rules.specs.Laws.Checks.{then_rest, AllInRange, of_levels, in_levels_lem}
-use Rattle.rules.specs.Laws.Checks.{call_unrefused, call_value, call_after, call_refusal}
-use Rattle.rules.specs.Laws.Passed.{lattice_passed}
-use Rattle.rules.specs.Laws.Refused.{refine_only}
-use Rattle.rules.specs.Laws.Surface.{Bounded, control_within, refined_within, length_store, store_within}
-use Rattle.rules.specs.Laws.Negation.{negated, Mirrored, refine_call_lem}
+use Rattle.rules.specs.Laws.Checks.{AllInRange, of_levels}
+use Rattle.rules.proofs.Laws.Checks.{then_rest, in_levels_lem}
+use Rattle.rules.proofs.Laws.Checks.{call_unrefused, call_value, call_after, call_refusal}
+use Rattle.rules.proofs.Laws.Passed.{lattice_passed}
+use Rattle.rules.proofs.Laws.Refused.{refine_only}
+use Rattle.rules.specs.Laws.Surface.{Bounded}
+use Rattle.rules.proofs.Laws.Surface.{control_within, refined_within, length_store, store_within}
+use Rattle.rules.specs.Laws.Negation.{negated, Mirrored}
+use Rattle.rules.proofs.Laws.Negation.{refine_call_lem}
 use Rattle.answers.specs.CellsTold.{told}
 use Rattle.answers.specs.declared.CellsTold.{CellsTold}
 

@@ -7,7 +7,7 @@ use Rattle.rules.specs.Answers as answer
 use Rattle.rules.specs.Grid.{controls, store}
 use Rattle.rules.specs.Level as rule
 use Rattle.rules.specs.Fit.{present, or_zero}
-use Rattle.rules.specs.Laws.Checks.{first_of_same}
+use Rattle.rules.proofs.Laws.Checks.{first_of_same}
 use Rattle.point_sums.specs.Sums.{pair_at}
 use Rattle.level_sums.specs.Gathered.{sum_table}
 use Rattle.level_sums.specs.Pairs.{pair_table}

@@ -5,8 +5,8 @@ use Rattle.algebra.specs.Table.{Free, over, laid, area, tabulate, length_tabulat
 use Rattle.rules.specs.Answers.{require, first_of, range_check, quotient, residual}
 use Rattle.rules.specs.Grid.{controls}
 use Rattle.rules.specs.Fit.{Shape, columns, rows, unit_of, Survey, point_count, points_of, valued, level_value, level_height, present, or_zero, level_of, lowered, residuals, level, quotient_check, residual_check}
-use Rattle.rules.specs.Laws.Checks.{range_check_size}
-use Rattle.rules.specs.Laws.Fit.{length_level, length_residuals}
+use Rattle.rules.proofs.Laws.Checks.{range_check_size}
+use Rattle.rules.proofs.Laws.Fit.{length_level, length_residuals}
 use Rattle.answers.specs.Cause.{ok_check}
 use Rattle.rules.specs.Laws.Passed.{Gridded}
 use Rattle.level_sums.specs.Gathered.{sum_table, Fittable}

@@ -10,10 +10,12 @@ use Rattle.rules.specs.Calls.{CellCounts, Lent, K, room_check, lent_check, fit_c
 use Rattle.rules.specs.Bytes.{bytes_of, value_bytes}
 use Rattle.rules.specs.LatticeFile.{LH, LR, Le, row_record, lattice_file, row_length, row_start, lattice_file_length}
 use Rattle.rules.specs.Program.{refused_line, written}
-use Rattle.rules.specs.Laws.Checks.{then_none}
-use Rattle.rules.specs.Laws.Passed.{surveyed_passes, placed_pass, FitAccepted, fit_accepted, fit_refused}
-use Rattle.rules.specs.Laws.Base.{length_single}
-use Rattle.rules.specs.Laws.Surface.{Same, control_over}
+use Rattle.rules.proofs.Laws.Checks.{then_none}
+use Rattle.rules.specs.Laws.Passed.{FitAccepted}
+use Rattle.rules.proofs.Laws.Passed.{surveyed_passes, placed_pass, fit_accepted, fit_refused}
+use Rattle.rules.proofs.Laws.Base.{length_single}
+use Rattle.rules.specs.Laws.Surface.{Same}
+use Rattle.rules.proofs.Laws.Surface.{control_over}
 use Rattle.refused_line.specs.Wrote.{Wrote}
 use Rattle.respond.specs.Taken.{Taken, answer_text}
 

@@ -11,8 +11,9 @@ use Rattle.rules.specs.PointFile.{Kind, pt, pq, Header, point_start, file_shape,
 use Rattle.rules.specs.PointFile.{point_file_check, read_points_check, over_lists, read_points_call}
 use Rattle.rules.specs.Program.{refused_line, program_check, written, program_output}
 use Rattle.rules.specs.Laws.Bytes.{AreBytes}
-use Rattle.rules.specs.Laws.Checks.{required, require_met, then_rest, then_none, call_unrefused, call_value, call_after, call_refusal}
-use Rattle.rules.specs.Laws.PointFile.{Writable, read_writable}
+use Rattle.rules.proofs.Laws.Checks.{required, require_met, then_rest, then_none, call_unrefused, call_value, call_after, call_refusal}
+use Rattle.rules.specs.Laws.PointFile.{Writable}
+use Rattle.rules.proofs.Laws.PointFile.{read_writable}
 use Rattle.respond.specs.Taken.{Taken, answer_text}
 
 -- at most 16 finest cells a side

@@ -8,7 +8,8 @@ use lib.Pow.{pow_pos, pow-add}
 use lib.Signed.{◌≤ℤ◌, ◌<ℤ◌}
 use Rattle.algebra.specs.Difference.{◌⊝◌, pos_part, neg_part, split, whole}
 use Rattle.rules.specs.Rounding.{near}
-use Rattle.rules.specs.Laws.Rounding.{Floored, floor_unique, odd, near_even}
+use Rattle.rules.specs.Laws.Rounding.{Floored, odd}
+use Rattle.rules.proofs.Laws.Rounding.{floor_unique, near_even}
 
 -- w is v with 2l times the divisor 2h, and with h less 1
 abbrev pub Lifted : ℤ → ℕ → ℕ → ℕ → Type 0

@@ -1,5 +1,4 @@
 pub mod Basis
-pub mod Floats
 pub mod Opposite
 pub mod Bytes
 pub mod Checks
@@ -9,14 +8,8 @@ pub mod Rounding
 pub mod Surface
 pub mod Slope
 pub mod TwoScale
-pub mod Raster
-pub mod Storage
 pub mod Stage
-pub mod Above
-pub mod Fit
-pub mod Base
 pub mod Levels
-pub mod Distance
 pub mod Confidence
 pub mod Negation
 pub mod LatticeFile

@@ -7,9 +7,10 @@ use Rattle.rules.specs.Answers.{range_check, sum}
 use Rattle.rules.specs.Grid.{limit, controls, control, store}
 use Rattle.rules.specs.Refinement.{refined}
 use Rattle.rules.specs.Fit.{Shape, columns, rows, Survey, level, running, sum_check}
-use Rattle.rules.specs.Laws.Checks.{AllInRange, range_check_size}
-use Rattle.rules.specs.Laws.Surface.{length_store, store_within, refined_within, control_within}
-use Rattle.rules.specs.Laws.Fit.{first_sums, next_running, length_running}
+use Rattle.rules.specs.Laws.Checks.{AllInRange}
+use Rattle.rules.proofs.Laws.Checks.{range_check_size}
+use Rattle.rules.proofs.Laws.Surface.{length_store, store_within, refined_within, control_within}
+use Rattle.rules.proofs.Laws.Fit.{first_sums, next_running, length_running}
 use Rattle.answers.specs.Cause.{ok_check}
 use Rattle.fit_steps.specs.Steps.{summed, Written}
 use Rattle.scratch.specs.Scratch.{area_within, Celled, RunningThere, LevelThere, SecondHalf, places}

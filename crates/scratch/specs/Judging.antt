@@ -3,7 +3,7 @@ use Rattle.std.specs.Prelude.{◌≡◌, Bool, true, false, List, ℕ, T, ℤ}
 use Rattle.std.proofs.Common.{sym, ap, subst, ◌∙◌, arith}
 use Rattle.std.proofs.Math.Option.{none, some}
 use Rattle.rules.specs.Answers.{Refusal, Check, ◌then◌}
-use Rattle.rules.specs.Laws.Checks.{then_none}
+use Rattle.rules.proofs.Laws.Checks.{then_none}
 use Rattle.answers.specs.Cause.{ok_check}
 use Rattle.scratch.specs.Scratch.{Judged}
 

@@ -4,7 +4,7 @@ use Rattle.std.proofs.Common.{◌∙◌, inl, inr, arith}
 use Rattle.algebra.specs.Table.{Free, free_area}
 use Rattle.rules.specs.Fit.{Shape, Survey, point_count, valued, residuals, level}
 use Rattle.rules.specs.Laws.Checks.{AllInRange}
-use Rattle.rules.specs.Laws.Fit.{level_size}
+use Rattle.rules.proofs.Laws.Fit.{level_size}
 use Rattle.scratch.specs.Scratch.{area_within, RunningThere, ResidualsThere, places}
 
 pub level_ranged : (a : Shape) (s : Survey) (k : ℕ) → AllInRange (places a k) (level a s k)

@@ -4,8 +4,8 @@ use Rattle.std.proofs.Common.{sym, ap, ◌∙◌, mul-le-mul, mul-le-mul_left, s
 use Rattle.rules.specs.Grid.{cells_at, unit_at, controls}
 use Rattle.rules.specs.Fit.{Shape, columns, rows, unit_of, Survey}
 use Rattle.rules.specs.Calls.{K}
-use Rattle.rules.specs.Laws.Levels.{cells_double}
-use Rattle.rules.specs.Laws.Passed.{level_sides}
+use Rattle.rules.proofs.Laws.Levels.{cells_double}
+use Rattle.rules.proofs.Laws.Passed.{level_sides}
 use Rattle.scratch.specs.Scratch.{Levelable, Celled, places}
 
 -- ---- a level and the last one

@@ -10,8 +10,8 @@ use Rattle.rules.specs.Rounding.{near}
 use Rattle.rules.specs.Grid.{control}
 use Rattle.rules.specs.Surface.{cell, offset}
 use Rattle.rules.specs.Slope.{slope_numerator, slope_denominator, slope_along, slope_x, slope_y}
-use Rattle.rules.specs.Laws.Basis.{weights_scale}
-use Rattle.rules.specs.Laws.Slope.{slopes_size}
+use Rattle.rules.proofs.Laws.Basis.{weights_scale}
+use Rattle.rules.proofs.Laws.Slope.{slopes_size}
 use Rattle.basis.specs.Weighing.{numerators, weight_size, line_height, Readable}
 use Rattle.basis.specs.Sums.{On, Placed, Based, offset_most, placed_below, weighted_placed, counted_from, row_height, column_height, row_is, column_is, row_asked, column_asked, on_x, on_y}
 use Rattle.basis.specs.declared.Basis.{Basis}

@@ -6,10 +6,12 @@ use Rattle.rules.specs.Grid.{controls, control}
 use Rattle.rules.specs.Slope.{exact_slope_x, slope_x, exact_slope_y, slope_y, SlopeClose}
 use Rattle.rules.specs.Answers.{accepted}
 use Rattle.rules.specs.Calls.{Slopes, height_check, slope_answer}
-use Rattle.rules.specs.Laws.Checks.{answer_none, answer_value}
-use Rattle.rules.specs.Laws.Surface.{Same, Inside, place_below}
-use Rattle.rules.specs.Laws.Slope.{slope_x_distance, slope_y_distance, level_slope_x, level_slope_y}
-use Rattle.rules.specs.Laws.Negation.{negated, with_value, opposite_slopes, slope_call}
+use Rattle.rules.proofs.Laws.Checks.{answer_none, answer_value}
+use Rattle.rules.specs.Laws.Surface.{Same, Inside}
+use Rattle.rules.proofs.Laws.Surface.{place_below}
+use Rattle.rules.proofs.Laws.Slope.{slope_x_distance, slope_y_distance, level_slope_x, level_slope_y}
+use Rattle.rules.specs.Laws.Negation.{negated, with_value, opposite_slopes}
+use Rattle.rules.proofs.Laws.Negation.{slope_call}
 use Rattle.heights.specs.Promises.{height_passed}
 use Rattle.slopes.specs.Sloping.{told}
 use Rattle.slopes.specs.declared.Sloped.{Sloped}

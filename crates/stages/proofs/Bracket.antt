@@ -13,8 +13,9 @@ use lib.IntN.{ℤ}
 use Rattle.algebra.specs.Size.{ceil_le}
 use Rattle.rules.specs.Storage.{depths}
 use Rattle.rules.specs.Stage.{lowest_of, stage_at}
-use Rattle.rules.specs.Laws.Storage.{depths_rise}
-use Rattle.rules.specs.Laws.Stage.{wets, lowest_of_found, stage_order, sum_next, wets_rise, sum_climbs}
+use Rattle.rules.proofs.Laws.Storage.{depths_rise}
+use Rattle.rules.specs.Laws.Stage.{wets}
+use Rattle.rules.proofs.Laws.Stage.{lowest_of_found, stage_order, sum_next, wets_rise, sum_climbs}
 
 -- ---- halves: of a bracket of at most 2^left numbers, tried in its middle
 

@@ -10,7 +10,7 @@ use lib.ListN.{get_or}
 use Rattle.rules.specs.Grid.{limit}
 use Rattle.rules.specs.Storage.{depth, depths}
 use Rattle.rules.specs.Laws.Checks.{AllInRange}
-use Rattle.rules.specs.Laws.Storage.{depth_most}
+use Rattle.rules.proofs.Laws.Storage.{depth_most}
 use Rattle.rules.specs.Laws.Stage.{wet, wets}
 
 module _ (heights : List ℤ) (stage : ℤ) where

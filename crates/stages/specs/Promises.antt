@@ -9,8 +9,8 @@ use Rattle.rules.specs.Grid.{limit, within}
 use Rattle.rules.specs.Answers.{Refusal, side, no_stage, ◌then◌, accepted, refused}
 use Rattle.rules.specs.Storage.{storage, side_check, pond_check, heights_check, storage_answer}
 use Rattle.rules.specs.Stage.{LowestStage, enough, stage_for, reach_check, stage_for_check, stage_for_answer}
-use Rattle.rules.specs.Laws.Checks.{require_refusal, then_refusal, then_none, answer_value, answer_refused, some_answer}
-use Rattle.rules.specs.Laws.Stage as law
+use Rattle.rules.proofs.Laws.Checks.{require_refusal, then_refusal, then_none, answer_value, answer_refused, some_answer}
+use Rattle.rules.proofs.Laws.Stage as law
 use Rattle.storage.specs.Told as stored
 use Rattle.storage.specs.Promises as storages
 use Rattle.storage.specs.Sampled.{Sampled, heights_unrefused, sampled_pond}

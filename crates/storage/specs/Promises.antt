@@ -7,8 +7,8 @@ use Rattle.rules.specs.Grid.{within, in_range}
 use Rattle.rules.specs.Answers.{Refusal, side, range, number, place, accepted, refused}
 use Rattle.rules.specs.Calls.{stage_check}
 use Rattle.rules.specs.Storage.{storage, side_check, storage_check, storage_answer}
-use Rattle.rules.specs.Laws.Checks.{require_refusal, then_refusal, answer_none, answer_value, answer_refused}
-use Rattle.rules.specs.Laws.Storage.{storage_rises, storage_most}
+use Rattle.rules.proofs.Laws.Checks.{require_refusal, then_refusal, answer_none, answer_value, answer_refused}
+use Rattle.rules.proofs.Laws.Storage.{storage_rises, storage_most}
 use Rattle.storage.specs.Told.{told}
 use Rattle.storage.specs.Sampled.{Sampled, sampled_answer_lem}
 use Rattle.storage.specs.declared.Stored.{Stored}

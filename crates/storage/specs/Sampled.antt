@@ -6,7 +6,7 @@ use Rattle.std.proofs.Math.Option.{none}
 use Rattle.rules.specs.Answers.{short, range, require, ◌then◌, Answer, accepted, answer, outcome, call}
 use Rattle.rules.specs.Calls.{Nodes, counts_check, nodes, raster_check, raster_call, stage_check}
 use Rattle.rules.specs.Storage.{storage, side_check, pond_check, heights_check, storage_check, storage_answer}
-use Rattle.rules.specs.Laws.Checks.{require_met, then_none, then_pass, size_range_check}
+use Rattle.rules.proofs.Laws.Checks.{require_met, then_none, then_pass, size_range_check}
 use Rattle.raster.specs.Promises.{many, counted, entries_held, entry_in_range}
 use Rattle.answers.specs.CountTold.{told}
 use Rattle.answers.specs.declared.CountTold.{CountTold}

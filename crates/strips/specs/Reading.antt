@@ -4,8 +4,9 @@ use Rattle.std.proofs.Math.Path.{ap}
 use Rattle.std.proofs.Common.{◌∙◌, ⊎_elim, mul-le-mul_left, le_trans, not-suc-le-zero, arith, pow_pos}
 use Rattle.rules.specs.Rounding.{near}
 use Rattle.rules.specs.Surface.{denominator}
-use Rattle.rules.specs.Laws.Basis.{cell_below, cell_mono, weighted_reads}
-use Rattle.rules.specs.Laws.Passed.{Gridded, edge_fits}
+use Rattle.rules.proofs.Laws.Basis.{cell_below, cell_mono, weighted_reads}
+use Rattle.rules.specs.Laws.Passed.{Gridded}
+use Rattle.rules.proofs.Laws.Passed.{edge_fits}
 use Rattle.basis.specs.Weighing.{Weighs, Located, Grounded, numerators, weight_size}
 use Rattle.basis.specs.Sums.{On, Based, on_grid, placed, weight_most, row_within, height_is}
 use Rattle.basis.specs.declared.Basis.{Basis}

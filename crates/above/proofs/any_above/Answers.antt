@@ -5,7 +5,7 @@ use Rattle.machine.specs.Tests.{plain}
 use Rattle.rules.specs.Answers.{Refusal, accepted, refused}
 use Rattle.rules.specs.Calls.{Nodes}
 use Rattle.rules.specs.Above.{above_check, above_answer, any_above}
-use Rattle.rules.specs.Laws.Checks.{none_answer, some_answer}
+use Rattle.rules.proofs.Laws.Checks.{none_answer, some_answer}
 use Rattle.checks.specs.Passed.{exponent_check, refusal_check}
 use Rattle.above.proofs.any_above.Goals as goal
 

@@ -8,8 +8,9 @@ use Rattle.rules.specs.Answers.{Refusal, Check, short, range, require, â—Œthenâ—
 use Rattle.rules.specs.Grid.{in_range, controls}
 use Rattle.rules.specs.Calls.{Nodes, cells_check, unit_check, stage_check, lattice_check, size_check, nodes_check}
 use Rattle.rules.specs.Above.{above_check}
-use Rattle.rules.specs.Laws.Checks.{then_none, then_some, then_assoc}
-use Rattle.rules.specs.Laws.Passed.{Gridded, controls_fit, last_fits, lattice_passed, stage_passed}
+use Rattle.rules.proofs.Laws.Checks.{then_none, then_some, then_assoc}
+use Rattle.rules.specs.Laws.Passed.{Gridded}
+use Rattle.rules.proofs.Laws.Passed.{controls_fit, last_fits, lattice_passed, stage_passed}
 use Rattle.answers.specs.Cause.{check}
 use Rattle.checks.specs.Ready.{grid_check}
 use Rattle.checks.specs.Passed.{exponent_check, refusal_check, tells_exponent, tells_refusal}

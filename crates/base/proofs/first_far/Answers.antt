@@ -5,8 +5,9 @@ use Rattle.machine.specs.Held.{Number, number, itself, read, minus, fits}
 use Rattle.rules.specs.Grid.{limit, in_range}
 use Rattle.rules.specs.Answers.{difference}
 use Rattle.rules.specs.Fit.{base, differences, difference_check}
-use Rattle.rules.specs.Laws.Base.{base_size, difference_at}
-use Rattle.rules.specs.Laws.Checks.{AllInRange, none_out_start, none_out_more, none_out_at}
+use Rattle.rules.proofs.Laws.Base.{base_size, difference_at}
+use Rattle.rules.specs.Laws.Checks.{AllInRange}
+use Rattle.rules.proofs.Laws.Checks.{none_out_start, none_out_more, none_out_at}
 use Rattle.base.proofs.first_far.Goals as goal
 
 -- ---- the difference of a turn, of heights in range

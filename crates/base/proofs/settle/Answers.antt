@@ -8,8 +8,9 @@ use Rattle.machine.specs.Held.{Number, number, Held, literal, read, minus, fits,
 use Rattle.rules.specs.Grid.{limit}
 use Rattle.rules.specs.Answers.{Refusal, difference, range_check}
 use Rattle.rules.specs.Fit.{total, near_mean, base, shifted, differences, difference_check}
-use Rattle.rules.specs.Laws.Base.{total_size, base_size}
-use Rattle.rules.specs.Laws.Checks.{AllInRange, range_check_size, size_range_check, none_answer, some_answer}
+use Rattle.rules.proofs.Laws.Base.{total_size, base_size}
+use Rattle.rules.specs.Laws.Checks.{AllInRange}
+use Rattle.rules.proofs.Laws.Checks.{range_check_size, size_range_check, none_answer, some_answer}
 use Rattle.answers.specs.Cause.{ok_check}
 use Rattle.base.proofs.settle.Goals as goal
 

@@ -1,7 +1,7 @@
 -- The smaller of x / U and m - 1 is the cell, and what is left of x is the offset.
 use Rattle.std.proofs.Common.{◌≡◌, ℕ, ◌-◌, ◌*◌, ◌%◌, ◌^◌, ◌<◌, ap, ◌∙◌, mod-eq_of_lt, arith}
 use Rattle.rules.specs.Surface.{cell, offset}
-use Rattle.rules.specs.Laws.Basis.{cell_offset}
+use Rattle.rules.proofs.Laws.Basis.{cell_offset}
 use Rattle.basis.proofs.locate.Goals as goal
 use Rattle.basis.proofs.locate.Goals.{then-c-last, else-c-last}
 

@@ -5,8 +5,8 @@ use Rattle.std.proofs.Math.Option.{none}
 use Rattle.std.proofs.lemmas.Bool.{ne_eqb}
 use Rattle.rules.specs.Answers.{require}
 use Rattle.rules.specs.Calls.{unit_check}
-use Rattle.rules.specs.Laws.Checks.{then_some, then_none}
-use Rattle.rules.specs.Laws.Passed.{cells_gridded}
+use Rattle.rules.proofs.Laws.Checks.{then_some, then_none}
+use Rattle.rules.proofs.Laws.Passed.{cells_gridded}
 use Rattle.checks.specs.Ready.{grid_check}
 use Rattle.checks.specs.Passed.{tells_exponent, tells_refusal}
 use Rattle.checks.proofs.gridded.Goals as goal

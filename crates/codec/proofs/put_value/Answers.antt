@@ -3,7 +3,7 @@ use Rattle.std.proofs.Common.{◌≡◌, ℕ, ◌+◌, ◌/◌, ◌%◌, ◌^◌
 use Rattle.algebra.specs.Table.{laid, laid_after}
 use Rattle.machine.specs.Tests.{plain}
 use Rattle.rules.specs.Bytes.{bytes_of, complement, value_bytes}
-use Rattle.rules.specs.Laws.Bytes.{length_bytes_of, bytes_of_split, bytes_of_low}
+use Rattle.rules.proofs.Laws.Bytes.{length_bytes_of, bytes_of_split, bytes_of_low}
 use Rattle.codec.proofs.put_value.Goals as goal
 
 -- the bytes of a number of which w bytes are laid, and then two more

@@ -1,7 +1,8 @@
 -- The number of two entries of the file.
 use Rattle.std.proofs.Common.{◌≡◌, ℕ, ◌+◌, ◌*◌, List, get_or, ap, arith}
 use Rattle.rules.specs.Bytes.{number_at}
-use Rattle.rules.specs.Laws.Bytes.{entries, number_at_entries}
+use Rattle.rules.specs.Laws.Bytes.{entries}
+use Rattle.rules.proofs.Laws.Bytes.{number_at_entries}
 use Rattle.codec.proofs.u16_at.Goals as goal
 
 two : (file : List ℕ) (at : ℕ) → get_or file at 0 + get_or file (at + 1) 0 * 256 ≡ number_at 2 file at

@@ -2,7 +2,8 @@
 use Rattle.std.proofs.Common.{◌≡◌, ℕ, ◌+◌, ◌*◌, List, ap, ◌∙◌, arith}
 use Rattle.machine.specs.Tests.{plain}
 use Rattle.rules.specs.Bytes.{uncomplement, number_at, value_at}
-use Rattle.rules.specs.Laws.Bytes.{entries, number_at_past, number_at_entries}
+use Rattle.rules.specs.Laws.Bytes.{entries}
+use Rattle.rules.proofs.Laws.Bytes.{number_at_past, number_at_entries}
 use Rattle.codec.proofs.value_at.Goals as goal
 
 eight : (file : List ℕ) (at a b d e : ℕ) → a ≡ number_at 2 file at → b ≡ number_at 2 file (at + 2) → d ≡ number_at 2 file (at + 4) → e ≡ number_at 2 file (at + 6)

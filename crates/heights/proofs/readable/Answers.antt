@@ -5,8 +5,9 @@ use borrow.Author.Tests.{lt-leb, le-leb}
 use Rattle.rules.specs.Answers.{Refusal, position, require, ◌then◌}
 use Rattle.rules.specs.Grid.{inside}
 use Rattle.rules.specs.Calls.{height_check}
-use Rattle.rules.specs.Laws.Checks.{then_none, then_some, then_assoc}
-use Rattle.rules.specs.Laws.Passed.{Gridded, last_fits}
+use Rattle.rules.proofs.Laws.Checks.{then_none, then_some, then_assoc}
+use Rattle.rules.specs.Laws.Passed.{Gridded}
+use Rattle.rules.proofs.Laws.Passed.{last_fits}
 use Rattle.answers.specs.Cause.{check}
 use Rattle.checks.specs.Ready.{grid_check, stored_check}
 use Rattle.checks.specs.Passed.{stored_passed, exponent_check, refusal_check, tells_exponent, tells_refusal}

@@ -5,7 +5,7 @@ use borrow.Rule.Slice.PartMut.{put_mid, Post-is}
 use Rattle.algebra.specs.Table.{tabulate, tabulate_same, over, over_none, fill_part}
 use Rattle.rules.specs.Grid.{controls, store}
 use Rattle.rules.specs.LatticeFile.{row_start, row_length}
-use Rattle.rules.specs.Laws.Surface.{at_place}
+use Rattle.rules.proofs.Laws.Surface.{at_place}
 use Rattle.lattice_reader.specs.Read.{values_from}
 use Rattle.lattice_layout.specs.Places.{lattice_row, file_row, gap, part_long}
 use Rattle.lattice_reader.proofs.copy.Invariants.{value, stored}

@@ -8,8 +8,8 @@ use Rattle.rules.specs.Answers.{Refusal, require, ◌then◌, first_of, short, A
 use Rattle.rules.specs.Calls.{CellCounts}
 use Rattle.rules.specs.LatticeFile.{LH, Le, file_m, file_n, file_lattice, row_start, lattice_head_check, row_check, end_check}
 use Rattle.rules.specs.LatticeFile.{lattice_file_check, read_lattice_check, read_lattice_call}
-use Rattle.rules.specs.Laws.Bytes.{record_fits}
-use Rattle.rules.specs.Laws.Checks.{required, then_first, then_rest, then_none, within_bounds, then_some, call_refused, call_accepted}
+use Rattle.rules.proofs.Laws.Bytes.{record_fits}
+use Rattle.rules.proofs.Laws.Checks.{required, then_first, then_rest, then_none, within_bounds, then_some, call_refused, call_accepted}
 use Rattle.lattice_reader.specs.Read.{lattice_from}
 use Rattle.lattice_reader.proofs.read_lattice.Goals as goal
 use Rattle.lattice_reader.proofs.read_lattice.Goals.{After-u16_at-n, In_default-end}

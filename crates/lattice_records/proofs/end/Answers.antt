@@ -4,8 +4,8 @@ use Rattle.std.proofs.Math.Option.{none}
 use borrow.Author.Tests.{eq-eqb, ne_eqb}
 use Rattle.rules.specs.Answers.{require, ◌then◌, field, trailing}
 use Rattle.rules.specs.Bytes.{number_at, record_check}
-use Rattle.rules.specs.Laws.Bytes.{record_fits}
-use Rattle.rules.specs.Laws.Checks.{then_none, then_some}
+use Rattle.rules.proofs.Laws.Bytes.{record_fits}
+use Rattle.rules.proofs.Laws.Checks.{then_none, then_some}
 use Rattle.rules.specs.LatticeFile.{Le, row_start, end_check}
 use Rattle.lattice_records.proofs.end.Goals as goal
 

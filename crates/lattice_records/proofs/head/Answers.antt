@@ -5,8 +5,8 @@ use Rattle.rules.specs.Grid.{within}
 use Rattle.rules.specs.Answers.{require, ◌then◌, field}
 use Rattle.rules.specs.Bytes.{number_at, record_check}
 use Rattle.rules.specs.LatticeFile.{LH, file_m, file_n, lattice_head_check}
-use Rattle.rules.specs.Laws.Bytes.{record_fits}
-use Rattle.rules.specs.Laws.Checks.{then_none, then_some}
+use Rattle.rules.proofs.Laws.Bytes.{record_fits}
+use Rattle.rules.proofs.Laws.Checks.{then_none, then_some}
 use Rattle.lattice_records.proofs.head.Goals as goal
 
 -- the record stands where `record` refused nothing

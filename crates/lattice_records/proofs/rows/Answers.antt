@@ -1,7 +1,7 @@
 -- The first row that is refused is the one at r, where none before it is.
 use Rattle.std.proofs.Common.{refl, sym, arith}
 use Rattle.rules.specs.Answers.{first_of}
-use Rattle.rules.specs.Laws.Checks.{first_of_at, first_of_more}
+use Rattle.rules.proofs.Laws.Checks.{first_of_at, first_of_more}
 use Rattle.lattice_records.proofs.rows.Goals as goal
 
 pub loop-r-init : goal.loop-r-init

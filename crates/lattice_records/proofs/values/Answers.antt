@@ -5,7 +5,7 @@ use Rattle.machine.specs.Tests.{plain}
 use Rattle.rules.specs.Grid.{in_range}
 use Rattle.rules.specs.Answers.{require, first_of, field}
 use Rattle.rules.specs.Bytes.{value_at}
-use Rattle.rules.specs.Laws.Checks.{first_of_at, first_of_more}
+use Rattle.rules.proofs.Laws.Checks.{first_of_at, first_of_more}
 use Rattle.lattice_records.specs.Judged.{value_check}
 use Rattle.lattice_records.proofs.values.Goals as goal
 

@@ -2,7 +2,7 @@
 use Rattle.std.proofs.Common.{◌≡◌, refl, sym, ap, ap₂, ◌∙◌, List, [], ◌∷◌, ◌++◌, ℕ, ◌+◌, ℤ, length, length-append, arith}
 use Rattle.algebra.specs.Table.{joined, over, laid, laid_front, laid_over, length_joined}
 use Rattle.rules.specs.Bytes.{bytes_of}
-use Rattle.rules.specs.Laws.Bytes.{length_bytes_of}
+use Rattle.rules.proofs.Laws.Bytes.{length_bytes_of}
 use Rattle.rules.specs.LatticeFile.{LH, Le, row_record, lattice_file, row_length, row_start, lattice_file_length}
 use Rattle.lattice_layout.specs.Places.{row_long}
 use Rattle.lattice_writer.proofs.put_lattice.Goals as goal

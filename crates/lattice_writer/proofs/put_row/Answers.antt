@@ -3,7 +3,7 @@ use Rattle.std.proofs.Common.{◌≡◌, refl, ap, ◌∙◌, List, [], ◌∷�
 use Rattle.algebra.specs.Table.{joined, laid, area, get_d_area, joined_same, laid_after}
 use Rattle.rules.specs.Grid.{control}
 use Rattle.rules.specs.Bytes.{bytes_of, value_bytes}
-use Rattle.rules.specs.Laws.Bytes.{length_bytes_of}
+use Rattle.rules.proofs.Laws.Bytes.{length_bytes_of}
 use Rattle.rules.specs.LatticeFile.{LR, row_record, row_length, row_start}
 use Rattle.lattice_writer.specs.Written.{bytes_of_values}
 use Rattle.lattice_layout.specs.Places.{gap, part_long}

@@ -4,7 +4,7 @@ use Rattle.std.specs.Int.Signed.{mag}
 use Rattle.algebra.specs.Table.{joined, laid, laid_none, laid_joined}
 use Rattle.machine.specs.Tests.{plain}
 use Rattle.rules.specs.Bytes.{value_bytes}
-use Rattle.rules.specs.Laws.Bytes.{length_value_bytes}
+use Rattle.rules.proofs.Laws.Bytes.{length_value_bytes}
 use Rattle.lattice_writer.specs.Written.{bytes_of_values}
 use Rattle.lattice_writer.proofs.put_values.Goals as goal
 

@@ -6,8 +6,8 @@ use Rattle.rules.specs.Grid.{controls}
 use Rattle.rules.specs.Answers.{require, ◌then◌, short, accepted, outcome}
 use Rattle.rules.specs.Calls.{cells_check, lattice_check}
 use Rattle.rules.specs.LatticeFile.{lattice_file_length, write_lattice_check, write_lattice_call}
-use Rattle.rules.specs.Laws.Checks.{then_none, then_some, call_refused, call_accepted}
-use Rattle.rules.specs.Laws.Passed.{cells_passed}
+use Rattle.rules.proofs.Laws.Checks.{then_none, then_some, call_refused, call_accepted}
+use Rattle.rules.proofs.Laws.Passed.{cells_passed}
 use Rattle.lattice_writer.proofs.write_lattice.Goals as goal
 use Rattle.lattice_writer.proofs.write_lattice.Goals.{Else-output-row_start}
 

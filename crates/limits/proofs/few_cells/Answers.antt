@@ -2,7 +2,7 @@
 use Rattle.std.proofs.Common.{◌≡◌, ◌*◌, ◌%◌, ◌^◌, ◌≤◌, refl, ap, leb, le-leb}
 use Rattle.std.proofs.lemmas.Bool.{lt-leb}
 use Rattle.rules.specs.Fit.{Shape, shape, columns, rows}
-use Rattle.rules.specs.Laws.Passed.{cells_at_shifted}
+use Rattle.rules.proofs.Laws.Passed.{cells_at_shifted}
 use Rattle.limits.proofs.few_cells.Goals as goal
 
 columns_is : (a : Shape) → a.m0 ≤ 16 → a.h ≤ 5 → (a.m0 * 2 ^ a.h) % 2 ^ 64 ≡ columns a a.h

@@ -6,7 +6,7 @@ use Rattle.algebra.specs.Partly.{part_kept}
 use Rattle.machine.specs.Held.{Number, number, read, minus, fits}
 use Rattle.rules.specs.Grid.{limit, controls, control}
 use Rattle.rules.specs.Surface.{height}
-use Rattle.rules.specs.Laws.Surface.{control_within, height_within}
+use Rattle.rules.proofs.Laws.Surface.{control_within, height_within}
 use Rattle.basis.specs.Weighing.{Readable}
 use Rattle.fit_steps.specs.Entries.{entry_held}
 use Rattle.fit_steps.specs.Tested.{untested, passed, refused, accepted}

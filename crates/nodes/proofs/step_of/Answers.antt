@@ -1,7 +1,7 @@
 -- Step 0 stands for the default, any other for itself, and neither is 0.
 use Rattle.std.proofs.Common.{refl, sym, arith}
 use Rattle.rules.specs.Calls.{default_step, step_of}
-use Rattle.rules.specs.Laws.Raster.{step_given}
+use Rattle.rules.proofs.Laws.Raster.{step_given}
 use Rattle.nodes.proofs.step_of.Goals as goal
 
 pub returns-then-step-eq0 : goal.returns-then-step-eq0

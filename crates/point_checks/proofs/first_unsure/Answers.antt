@@ -1,5 +1,5 @@
 use Rattle.std.proofs.Common.{◌≡◌, ℕ, ◌≤◌, ◌<◌, false, List, length, get_or, T, sym, subst, ◌∙◌, arith}
-use Rattle.rules.specs.Laws.Checks.{byte_sure, zero_unsure}
+use Rattle.rules.proofs.Laws.Checks.{byte_sure, zero_unsure}
 use Rattle.point_checks.specs.Sure.{all_sure, sure_all}
 use Rattle.point_checks.proofs.first_unsure.Goals as goal
 

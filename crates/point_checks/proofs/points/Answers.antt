@@ -7,7 +7,7 @@ use Rattle.rules.specs.Grid.{confident}
 use Rattle.rules.specs.Fit.{Survey, survey, point_count, point_at, total}
 use Rattle.rules.specs.Answers.{Refusal, confidence, Check, require, ◌then◌, first_of, refused, answer}
 use Rattle.rules.specs.Calls.{spot_check, point_check, points_check}
-use Rattle.rules.specs.Laws.Checks.{byte_sure, then_none, then_some, then_pass, then_assoc, first_of_same, first_of_at, first_of_refusal}
+use Rattle.rules.proofs.Laws.Checks.{byte_sure, then_none, then_some, then_pass, then_assoc, first_of_same, first_of_at, first_of_refusal}
 use Rattle.point_checks.specs.Sure.{each_sure, FirstUnsure}
 use Rattle.point_checks.specs.Spots.{spot_at}
 use Rattle.point_checks.specs.Told as points_told

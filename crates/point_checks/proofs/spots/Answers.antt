@@ -10,8 +10,9 @@ use Rattle.rules.specs.Grid.{limit, in_range, inside}
 use Rattle.rules.specs.Fit.{total}
 use Rattle.rules.specs.Answers.{Refusal, Check, position, range, require, ◌then◌, first_of, accepted, refused, answer}
 use Rattle.rules.specs.Calls.{spot_check}
-use Rattle.rules.specs.Laws.Base.{total_more, total_size}
-use Rattle.rules.specs.Laws.Checks.{required, then_rest, first_of_all, first_of_at, AllInRange, in_range_size}
+use Rattle.rules.proofs.Laws.Base.{total_more, total_size}
+use Rattle.rules.specs.Laws.Checks.{AllInRange}
+use Rattle.rules.proofs.Laws.Checks.{required, then_rest, first_of_all, first_of_at, in_range_size}
 use Rattle.point_checks.specs.Spots.{spot_at}
 use Rattle.point_checks.proofs.spots.Goals as goal
 

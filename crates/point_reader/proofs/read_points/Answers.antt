@@ -6,7 +6,7 @@ use Rattle.algebra.specs.Table.{tabulate, over}
 use Rattle.rules.specs.Fit.{Survey, survey}
 use Rattle.rules.specs.Answers.{Refusal, require, ◌then◌, short, Answer, accepted, refused, answer, outcome}
 use Rattle.rules.specs.PointFile.{Header, file_points, kind_of, file_start, file_x, file_y, file_z, file_q, file_survey, point_file_check, read_points_check, over_lists, read_points_call}
-use Rattle.rules.specs.Laws.Checks.{required, then_rest, answer_none, answer_value, answer_refused, call_refused, call_accepted}
+use Rattle.rules.proofs.Laws.Checks.{required, then_rest, answer_none, answer_value, answer_refused, call_refused, call_accepted}
 use Rattle.point_records.specs.declared.Kind.{Kind}
 use Rattle.point_records.specs.Read.{told, header, ruled, Held}
 use Rattle.point_reader.proofs.read_points.Goals as goal

@@ -6,7 +6,7 @@ use Rattle.rules.specs.Grid.{within}
 use Rattle.rules.specs.Answers.{require, ◌then◌, field}
 use Rattle.rules.specs.Bytes.{record_check}
 use Rattle.rules.specs.PointFile.{PH, file_shape, point_head_check}
-use Rattle.rules.specs.Laws.Bytes.{record_fits}
+use Rattle.rules.proofs.Laws.Bytes.{record_fits}
 use Rattle.point_records.specs.Records.{number_at_one}
 use Rattle.point_records.proofs.head.Goals as goal
 

@@ -7,8 +7,8 @@ use Rattle.rules.specs.Fit.{shape, columns, rows}
 use Rattle.rules.specs.Answers.{Refusal, require, ◌then◌, first_of, trailing, accepted, refused, answer}
 use Rattle.rules.specs.PointFile.{kind_of, point_start, file_shape, file_points, point_head_check, point_record_check, point_file_check}
 use Rattle.rules.specs.Bytes.{number_at}
-use Rattle.rules.specs.Laws.Passed.{cells_at_most, cells_at_shifted}
-use Rattle.rules.specs.Laws.PointFields.{start_most}
+use Rattle.rules.proofs.Laws.Passed.{cells_at_most, cells_at_shifted}
+use Rattle.rules.proofs.Laws.PointFields.{start_most}
 use Rattle.point_records.specs.Read.{header, ruled}
 use Rattle.point_records.specs.Records.{HeadBounds, number_at_one, head_passed}
 use Rattle.point_records.proofs.judge.Goals as goal

@@ -6,9 +6,9 @@ use Rattle.rules.specs.Grid.{in_range}
 use Rattle.rules.specs.Answers.{◌then◌}
 use Rattle.rules.specs.Bytes.{value_at, record_check}
 use Rattle.rules.specs.PointFile.{mark_of, size_of, file_shape, point_record_check}
-use Rattle.rules.specs.Laws.Checks.{then_none}
-use Rattle.rules.specs.Laws.Bytes.{record_fits}
-use Rattle.rules.specs.Laws.PointFields.{length_mark, length_last, start_most}
+use Rattle.rules.proofs.Laws.Checks.{then_none}
+use Rattle.rules.proofs.Laws.Bytes.{record_fits}
+use Rattle.rules.proofs.Laws.PointFields.{length_mark, length_last, start_most}
 use Rattle.point_records.specs.Read.{ruled}
 use Rattle.point_records.specs.Fields.{fields, checks, past_right, past_top, out, unsure, fine}
 use Rattle.point_records.proofs.point.Goals as goal

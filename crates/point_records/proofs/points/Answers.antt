@@ -1,6 +1,6 @@
 -- The first record that is refused is the one at i, where none before it is.
 use Rattle.std.proofs.Common.{◌≡◌, sym, arith}
-use Rattle.rules.specs.Laws.Checks.{first_of_all, first_of_at}
+use Rattle.rules.proofs.Laws.Checks.{first_of_all, first_of_at}
 use Rattle.point_records.proofs.points.Goals as goal
 
 pub returns-in-Refused : goal.returns-in-Refused

@@ -5,7 +5,8 @@ use Rattle.algebra.specs.Table.{joined, laid, laid_after}
 use Rattle.machine.specs.Tests.{plain}
 use Rattle.rules.specs.Fit.{Survey, survey, point_at}
 use Rattle.rules.specs.PointFile.{pq, point_record}
-use Rattle.rules.specs.Laws.PointFields.{record_of, length_records}
+use Rattle.rules.specs.Laws.PointFields.{record_of}
+use Rattle.rules.proofs.Laws.PointFields.{length_records}
 use Rattle.point_writer.proofs.put_points.Goals as goal
 
 -- one record more; v is the height as it is handed on

@@ -8,8 +8,9 @@ use Rattle.rules.specs.Answers.{Refusal, require, ◌then◌, short, accepted, r
 use Rattle.rules.specs.Bytes.{bytes_of}
 use Rattle.rules.specs.Calls.{survey_check, points_check}
 use Rattle.rules.specs.PointFile.{PH, pq, point_head, point_file, point_start, point_file_length, write_points_check, write_points_call}
-use Rattle.rules.specs.Laws.Checks.{call_refused, call_accepted}
-use Rattle.rules.specs.Laws.Passed.{cells_at_most, Surveyed, survey_passed, cells_at_shifted}
+use Rattle.rules.proofs.Laws.Checks.{call_refused, call_accepted}
+use Rattle.rules.specs.Laws.Passed.{Surveyed}
+use Rattle.rules.proofs.Laws.Passed.{cells_at_most, survey_passed, cells_at_shifted}
 use Rattle.rules.specs.Laws.PointFields.{record_of}
 use Rattle.point_checks.specs.Told as points
 use Rattle.point_writer.proofs.write_points.Goals as goal

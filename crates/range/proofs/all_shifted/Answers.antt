@@ -2,8 +2,8 @@ use Rattle.std.proofs.Common.{◌≡◌, ◌≤◌, length, get_or, ℤ, pos, na
 use Rattle.machine.specs.Held.{Number, number, itself, read, plus}
 use Rattle.machine.specs.Tests.{plain}
 use Rattle.rules.specs.Grid.{limit, in_range}
-use Rattle.rules.specs.Laws.Base.{shifted_at}
-use Rattle.rules.specs.Laws.Checks.{none_out_start}
+use Rattle.rules.proofs.Laws.Base.{shifted_at}
+use Rattle.rules.proofs.Laws.Checks.{none_out_start}
 use Rattle.range.specs.Scan.{scan_more}
 use Rattle.range.proofs.all_shifted.Goals as goal
 

@@ -1,6 +1,7 @@
 -- What the blocks passed is in range, and where a block has a value out of range the search finds the first.
 use Rattle.std.proofs.Common.{get_or, pos, sym, ◌∙◌, arith}
-use Rattle.rules.specs.Laws.Checks.{NoneOut, SomeOut, none_out_start, none_out_at, some_out_more, first_out_found}
+use Rattle.rules.specs.Laws.Checks.{NoneOut, SomeOut}
+use Rattle.rules.proofs.Laws.Checks.{none_out_start, none_out_at, some_out_more, first_out_found}
 use Rattle.range.specs.Scan.{tested, all_none_out, all_some_out}
 use Rattle.range.proofs.first_out.Goals as goal
 use Rattle.range.proofs.first_out.Goals.{Joined-n-lt64, then-n-lt64+else-all_in_range, else-n-lt64+else-not-in_range+else-i-n}

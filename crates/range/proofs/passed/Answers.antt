@@ -1,5 +1,5 @@
 use Rattle.std.proofs.Common.{arith}
-use Rattle.rules.specs.Laws.Checks.{none_out_start, none_out_less, some_out_more}
+use Rattle.rules.proofs.Laws.Checks.{none_out_start, none_out_less, some_out_more}
 use Rattle.range.specs.Scan.{all_none_out, all_some_out}
 use Rattle.range.proofs.passed.Goals as goal
 

@@ -1,5 +1,5 @@
 use Rattle.std.proofs.Common.{T, get_or, pos, sym, ◌∙◌, subst, arith}
-use Rattle.rules.specs.Laws.Checks.{none_out_more, some_out_past}
+use Rattle.rules.proofs.Laws.Checks.{none_out_more, some_out_past}
 use Rattle.range.specs.Scan.{tested}
 use Rattle.range.proofs.search.Goals as goal
 

@@ -4,7 +4,7 @@ use Rattle.std.proofs.Math.Option.{none}
 use Rattle.algebra.specs.Table.{tabulate, over}
 use Rattle.rules.specs.Answers.{accepted, outcome}
 use Rattle.rules.specs.Calls.{Nodes, node_height, raster_check, raster_call}
-use Rattle.rules.specs.Laws.Checks.{call_refused, call_accepted}
+use Rattle.rules.proofs.Laws.Checks.{call_refused, call_accepted}
 use Rattle.checks.specs.Passed.{exponent_check, refusal_check}
 use Rattle.raster.proofs.raster.Goals as goal
 

@@ -6,10 +6,11 @@ use borrow.Author.Tests.{lt-leb}
 use Rattle.rules.specs.Answers.{Refusal, Check, short, require, ◌then◌}
 use Rattle.rules.specs.Grid.{controls}
 use Rattle.rules.specs.Calls.{Nodes, cells_check, unit_check, lattice_check, raster_check, size_check, nodes_check}
-use Rattle.rules.specs.Laws.Checks.{then_none, then_some, then_assoc}
+use Rattle.rules.proofs.Laws.Checks.{then_none, then_some, then_assoc}
 use Rattle.answers.specs.Cause.{check}
 use Rattle.checks.specs.Ready.{grid_check, stored_check}
-use Rattle.rules.specs.Laws.Passed.{Gridded, last_fits}
+use Rattle.rules.specs.Laws.Passed.{Gridded}
+use Rattle.rules.proofs.Laws.Passed.{last_fits}
 use Rattle.checks.specs.Passed.{stored_passed, exponent_check, refusal_check, tells_exponent, tells_refusal}
 use Rattle.nodes.specs.Inside.{size_passed, nodes_inside}
 use Rattle.raster.proofs.samplable.Goals as goal

@@ -4,7 +4,7 @@ use Rattle.algebra.specs.Table.{tabulate, over, over_none, fill_store}
 use Rattle.machine.specs.Tests.{plain}
 use Rattle.rules.specs.Rounding.{near}
 use Rattle.rules.specs.Refinement as rule
-use Rattle.rules.specs.Laws.TwoScale.{finer_at}
+use Rattle.rules.proofs.Laws.TwoScale.{finer_at}
 use Rattle.refined_rows.proofs.refine_row.Invariants.{value}
 use Rattle.refined_rows.proofs.refine_row.Goals as goal
 

@@ -3,7 +3,7 @@ use Rattle.std.proofs.Common.{◌≡◌, ℕ, List, get_or, ℤ, pos, ap, ◌∙
 use Rattle.machine.specs.Tests.{plain}
 use Rattle.rules.specs.Rounding.{near}
 use Rattle.rules.specs.Refinement as rule
-use Rattle.rules.specs.Laws.TwoScale.{masked_size}
+use Rattle.rules.proofs.Laws.TwoScale.{masked_size}
 use Rattle.refined_rows.proofs.Weighed.{learnt, weighed}
 use Rattle.refined_rows.proofs.refined_at.Goals as goal
 use Rattle.refined_rows.proofs.refined_at.Goals.{After-masked}

@@ -6,8 +6,8 @@ use Rattle.std.proofs.Math.Option.{none}
 use Rattle.rules.specs.Answers.{short, require, ◌then◌, outcome}
 use Rattle.rules.specs.Grid.{controls}
 use Rattle.rules.specs.Calls.{cells_check, lattice_check, refine_check, refine_call}
-use Rattle.rules.specs.Laws.Checks.{then_none, then_some, call_refused, call_accepted}
-use Rattle.rules.specs.Laws.Passed.{cells_passed, lattice_passed}
+use Rattle.rules.proofs.Laws.Checks.{then_none, then_some, call_refused, call_accepted}
+use Rattle.rules.proofs.Laws.Passed.{cells_passed, lattice_passed}
 use Rattle.answers.specs.Cause.{found}
 use Rattle.refinement.proofs.refine.Goals as goal
 use Rattle.refinement.proofs.refine.Goals.{In_default}

@@ -1,6 +1,6 @@
 -- `respond::fit_and_write` meets its contract: the lattice file of an accepted fit, or the line of its refusal.
 use Rattle.std.proofs.Common.{refl, sym, ap, ◌∙◌, arith}
-use Rattle.rules.specs.Laws.LatticeFile.{length_lattice_file}
+use Rattle.rules.proofs.Laws.LatticeFile.{length_lattice_file}
 use Rattle.answers.specs.CellsTold.{told}
 use Rattle.respond.proofs.Fitting.{written_as, refusal, room, file_is}
 use Rattle.respond.proofs.fit_and_write.Goals as goal

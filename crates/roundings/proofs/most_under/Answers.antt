@@ -7,7 +7,8 @@ use Rattle.algebra.specs.Difference.{split, whole}
 use Rattle.machine.specs.Held.{Held, Number, number, itself, literal, cast_low, read, plus, minus, times, fits}
 use Rattle.rules.specs.Rounding.{near}
 use Rattle.rules.specs.Surface.{denominator}
-use Rattle.rules.specs.Laws.Rounding.{odd, near_above}
+use Rattle.rules.specs.Laws.Rounding.{odd}
+use Rattle.rules.proofs.Laws.Rounding.{near_above}
 use Rattle.roundings.proofs.Powers.{denominator_power}
 use Rattle.roundings.proofs.most_under.Goals as goal
 

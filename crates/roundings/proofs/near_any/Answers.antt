@@ -3,7 +3,8 @@ use Rattle.std.proofs.Common.{◌≡◌, ℕ, ◌-◌, ◌*◌, ◌≤◌, ℤ, 
 use Rattle.algebra.specs.Difference.{split, whole}
 use Rattle.machine.specs.Held.{Held, Number, number, itself, literal, cast, read, plus, minus, times, small, returned}
 use Rattle.rules.specs.Rounding.{floor, near}
-use Rattle.rules.specs.Laws.Rounding.{floor_unique, odd, near_even, near_double}
+use Rattle.rules.specs.Laws.Rounding.{odd}
+use Rattle.rules.proofs.Laws.Rounding.{floor_unique, near_even, near_double}
 use Rattle.roundings.proofs.Quotient.{floor_size}
 use Rattle.roundings.proofs.near_any.Goals as goal
 

@@ -8,8 +8,8 @@ use Rattle.machine.specs.Held.{Held, Number, number, itself, literal, cast_low, 
 use Rattle.machine.specs.Tests.{less, not_less}
 use Rattle.rules.specs.Rounding.{near}
 use Rattle.rules.specs.Surface.{denominator}
-use Rattle.rules.specs.Laws.Rounding.{near_odd}
-use Rattle.rules.specs.Laws.Surface.{denominator_positive}
+use Rattle.rules.proofs.Laws.Rounding.{near_odd}
+use Rattle.rules.proofs.Laws.Surface.{denominator_positive}
 use Rattle.roundings.proofs.Lifted.{lifted_near}
 use Rattle.roundings.proofs.Powers.{denominator_power}
 use Rattle.roundings.proofs.near_over_tested.Goals as goal

@@ -7,7 +7,8 @@ use Rattle.machine.specs.Held.{Held, cast_low, read, small}
 use Rattle.rules.specs.Level as rule
 use Rattle.rules.specs.Level.{◌⊘◌}
 use Rattle.rules.specs.Surface.{numerator, denominator}
-use Rattle.rules.specs.Laws.Basis.{weights, numerator_weights, weights_sum}
+use Rattle.rules.specs.Laws.Basis.{weights}
+use Rattle.rules.proofs.Laws.Basis.{numerator_weights, weights_sum}
 use Rattle.basis.specs.Weighing.{Weighs}
 use Rattle.weights.proofs.axis.Goals as goal
 use Rattle.weights.proofs.axis.Goals.{After-basis_of-b}

@@ -8,9 +8,10 @@ use Rattle.rules.specs.Level.{Coefficient, fitted, untouched, near_float, kept, 
 use Rattle.rules.specs.Refinement.{refined}
 use Rattle.rules.specs.Fit.{Shape, columns, rows, Survey, point_count, valued, level_value, or_zero, level_of, lowered, raised, residuals, level, running, sum_check}
 use Rattle.rules.specs.Answers.{sum}
-use Rattle.rules.specs.Laws.Checks.{AllInRange, in_range_size, size_range_check}
-use Rattle.rules.specs.Laws.Levels.{cells_double}
-use Rattle.rules.specs.Laws.Surface.{length_store}
+use Rattle.rules.specs.Laws.Checks.{AllInRange}
+use Rattle.rules.proofs.Laws.Checks.{in_range_size, size_range_check}
+use Rattle.rules.proofs.Laws.Levels.{cells_double}
+use Rattle.rules.proofs.Laws.Surface.{length_store}
 
 -- ---- level lattices are in range
 

@@ -8,8 +8,9 @@ use Rattle.rules.specs.Grid.{limit, within}
 use Rattle.rules.specs.Answers.{short, side, range, place, require}
 use Rattle.rules.specs.Calls.{counts_check, stage_check}
 use Rattle.rules.specs.Storage.{depth, depths, litres, storage, side_check, pond_check, heights_check, storage_check}
-use Rattle.rules.specs.Laws.Checks.{required, within_bounds, then_both, AllInRange, range_check_size, range_check_refusal, Part}
-use Rattle.rules.specs.Laws.Passed.{counts_passed, stage_passed}
+use Rattle.rules.specs.Laws.Checks.{AllInRange, Part}
+use Rattle.rules.proofs.Laws.Checks.{required, within_bounds, then_both, range_check_size, range_check_refusal}
+use Rattle.rules.proofs.Laws.Passed.{counts_passed, stage_passed}
 
 -- ---- "A higher stage never stores less"
 

@@ -1,11 +1,10 @@
 -- Laws of the ground above a stage: what a yes and a no tell, that a higher stage never turns a no into a yes, that it is no where no control value is above, and
 -- that its checks are the raster's.
-use Rattle.std.specs.Prelude.{◌≡◌, Bool, not, ◌&&◌, ◌||◌, List, ℕ, zero, suc, ◌+◌, ◌*◌, ◌≤◌, ◌<◌, ℤ, length, ◌≤ℤ◌, ◌<ℤ◌}
+use Rattle.std.specs.Prelude.{◌≡◌, Bool, not, ◌&&◌, List, ℕ, ◌+◌, ◌*◌, ◌≤◌, ◌<◌, ℤ, length, ◌≤ℤ◌, ◌<ℤ◌}
 use Rattle.std.proofs.Math.Path.{refl, ap}
-use Rattle.std.proofs.Common.{sym, ap₂, ◌∙◌, subst, not-suc-le-zero, arith, le-leb}
+use Rattle.std.proofs.Common.{sym, ◌∙◌, subst, arith, le-leb}
 use Rattle.std.proofs.Math.Bool.{true, false}
 use Rattle.std.proofs.Math.Option.{none}
-use Rattle.std.proofs.Math.Decide.{dec_lt}
 use Rattle.std.proofs.Math.Dec.{T, leb, not_T}
 use Rattle.std.specs.Float.Ieee.Bits.{is_true, is_false}
 use Rattle.std.specs.Int.Signed.{lt_z, lt_z_yes, lt_z_no, clash_ℤ}
@@ -14,44 +13,13 @@ use Rattle.rules.specs.Grid.{controls, control}
 use Rattle.rules.specs.Answers.{short, require, ◌then◌}
 use Rattle.rules.specs.Calls.{cells_check, unit_check, stage_check, lattice_check, Nodes, node_x, node_y, size_check, nodes_check, raster_check}
 use Rattle.rules.specs.Above.{any_of, above, any_above, above_check}
-use Rattle.rules.specs.Laws.Basis.{cell_below}
-use Rattle.rules.specs.Laws.Checks.{then_first, then_rest, then_none}
-use Rattle.rules.specs.Laws.Surface.{Inside, height_most}
+use Rattle.rules.proofs.Laws.AnyOf.{any_of_none, any_of_some}
+use Rattle.rules.proofs.Laws.Basis.{cell_below}
+use Rattle.rules.proofs.Laws.Checks.{then_first, then_rest, then_none}
+use Rattle.rules.specs.Laws.Surface.{Inside}
+use Rattle.rules.proofs.Laws.Surface.{height_most}
 
 -- ---- some of many
-
-pub any_of_same : (n : ℕ) (t u : ℕ → Bool) → ((i : ℕ) → i < n → t i ≡ u i) → any_of n t ≡ any_of n u
-unfolding any_of
-any_of_same zero t u h = refl
-any_of_same (suc n) t u h = ap₂ ◌||◌ (any_of_same n t u (λ i l. h i (omega arith))) (h n (omega arith))
-
-pub any_of_none : (n : ℕ) (t : ℕ → Bool) → ((i : ℕ) → i < n → t i ≡ false) → any_of n t ≡ false
-unfolding any_of
-any_of_none zero t h = refl
-any_of_none (suc n) t h = ap₂ ◌||◌ (any_of_none n t (λ i l. h i (omega arith))) (h n (omega arith))
-
-pub any_of_some : (n i : ℕ) (t : ℕ → Bool) → i < n → t i ≡ true → any_of n t ≡ true
-unfolding any_of
-any_of_some zero i t l e = absurd (not-suc-le-zero l)
-any_of_some (suc n) i t l e = go (dec_lt i n) (λ k. any_of_some n i t k e)
-  where
-    or_true : (b : Bool) → (b || true) ≡ true
-    or_true true = refl
-    or_true false = refl
-
-    go : Dec (i < n) → (i < n → any_of n t ≡ true) → (any_of n t || t n) ≡ true
-    go (yes k) ih = rw (ih k) refl
-    go (no g) ih = let same : n ≡ i = omega arith in rw (same, e) (or_true (any_of i t))
-
--- what its answers tell
-pub any_of_found : (n : ℕ) (t : ℕ → Bool) → any_of n t ≡ true → (i : ℕ) × (i < n) × (t i ≡ true)
-unfolding any_of
-any_of_found zero t e = absurd (subst T (sym e) tt)
-any_of_found (suc n) t e = go (any_of n t) (any_of_found n t) e
-  where
-    go : (b : Bool) → (b ≡ true → (i : ℕ) × (i < n) × (t i ≡ true)) → (b || t n) ≡ true → (i : ℕ) × (i < suc n) × (t i ≡ true)
-    go true ih e = let p = ih refl in (p.0, omega (arith, p.1), p.2)
-    go false ih e = (n, omega arith, e)
 
 pub any_of_each : (n i : ℕ) (t : ℕ → Bool) → any_of n t ≡ false → i < n → t i ≡ false
 any_of_each n i t e l = go (t i) refl

@@ -5,9 +5,9 @@ use Rattle.algebra.specs.Size.{nat_abs_sum}
 use Rattle.algebra.specs.Table.{length_tabulate, get_d_tabulate}
 use Rattle.rules.specs.Grid.{limit, controls}
 use Rattle.rules.specs.Fit.{Shape, columns, rows, Survey, total, near_mean, base, shifted, differences, from_base, single_lattice}
-use Rattle.rules.specs.Laws.Rounding.{near_within}
+use Rattle.rules.proofs.Laws.Rounding.{near_within}
 use Rattle.rules.specs.Laws.Checks.{AllInRange}
-use Rattle.rules.specs.Laws.Fit.{length_running}
+use Rattle.rules.proofs.Laws.Fit.{length_running}
 
 -- ---- the sum of heights, and their base
 

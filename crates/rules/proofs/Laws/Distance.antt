@@ -18,14 +18,18 @@ use Rattle.rules.specs.Fit.{the_d, level_surface, the_t, the_sum, the_v}
 use Rattle.rules.specs.Answers.{require, answer}
 use Rattle.rules.specs.Calls.{Lent, unit_check, lattice_check, height_check, height_answer, fit_check, finest, fit_call}
 use Rattle.rules.specs.Demand3.{Multiple, EqualCase, Close, CloseEverywhere, Demand3}
-use Rattle.rules.specs.Laws.Rounding.{near_exact}
-use Rattle.rules.specs.Laws.Passed.{Sides, sides_pass, level_sides, survey_passed, fit_accepted}
-use Rattle.rules.specs.Laws.Checks.{require_met, then_first, then_rest, then_none}
-use Rattle.rules.specs.Laws.Checks.{AllInRange, range_check_size, size_range_check}
-use Rattle.rules.specs.Laws.Surface.{Same, Inside, full, surface_sum, surface_constant, surface_reads, height_distance, control_store, control_over, place_below}
-use Rattle.rules.specs.Laws.Base.{shifted_at, length_single}
-use Rattle.rules.specs.Laws.Fit.{length_running}
-use Rattle.rules.specs.Laws.Levels.{Multiples, Levels, surface_at, surfaces_to, full_power, surface_off, surface_equal}
+use Rattle.rules.proofs.Laws.Rounding.{near_exact}
+use Rattle.rules.specs.Laws.Passed.{Sides}
+use Rattle.rules.proofs.Laws.Passed.{sides_pass, level_sides, survey_passed, fit_accepted}
+use Rattle.rules.proofs.Laws.Checks.{require_met, then_first, then_rest, then_none}
+use Rattle.rules.specs.Laws.Checks.{AllInRange}
+use Rattle.rules.proofs.Laws.Checks.{range_check_size, size_range_check}
+use Rattle.rules.specs.Laws.Surface.{Same, Inside, full}
+use Rattle.rules.proofs.Laws.Surface.{surface_sum, surface_constant, surface_reads, height_distance, control_store, control_over, place_below}
+use Rattle.rules.proofs.Laws.Base.{shifted_at, length_single}
+use Rattle.rules.proofs.Laws.Fit.{length_running}
+use Rattle.rules.specs.Laws.Levels.{Multiples, Levels, surface_at, surfaces_to}
+use Rattle.rules.proofs.Laws.Levels.{full_power, surface_off, surface_equal}
 
 -- ---- D, the one denominator of all levels
 
