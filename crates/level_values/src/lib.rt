@@ -1,5 +1,6 @@
 // The control values of one level of the fit: each pair of sums becomes one, or is refused.
 #![tactic(auto)]
+
 ghost use Rattle.std.specs.Prelude.{◌≡◌, ◌*◌, ◌≤◌, length};
 ghost use Rattle.rules.specs.Level as rule;
 ghost use Rattle.float_near.specs.Settled.{settled_value};
