@@ -1,5 +1,6 @@
 // The sums of one level of the fit, in f64 to the bit: the points' weights are scattered into two sums a control value.
 #![tactic(auto)]
+
 ghost use Rattle.std.specs.Prelude.{◌≡◌, ◌*◌, ◌^◌, ◌≤◌, length, replicate};
 ghost use Rattle.algebra.specs.Table.{over};
 ghost use Rattle.rules.specs.Grid.{controls};

@@ -1,11 +1,11 @@
--- `level_sums::clear` meets its contract: a loop that fills the slice's start.
+-- A loop that fills the slice's start.
 use Rattle.std.proofs.Common.{◌≡◌, ◌-◌, ◌≤◌, length}
 use Rattle.algebra.specs.Table.{tabulate, over}
 use Rattle.rules.specs.Level as rule
 use Rattle.level_sums.proofs.clear.Given as goal
 
-abbrev pub invariant-loop : goal.invariant-loop
-invariant-loop l = (l.q ≤ l.count) × (l.sums ≡ over (tabulate l.q (λ _. rule.zero64)) l.initial.sums) × (length l.sums ≡ length l.initial.sums)
+abbrev pub invariant-loop-q : goal.invariant-loop-q
+invariant-loop-q l = (l.q ≤ l.count) × (l.sums ≡ over (tabulate l.q (λ _. rule.zero64)) l.initial.sums) × (length l.sums ≡ length l.initial.sums)
 
-abbrev pub decreases-loop : goal.decreases-loop
-decreases-loop l = l.count - l.q
+abbrev pub decreases-loop-q : goal.decreases-loop-q
+decreases-loop-q l = l.count - l.q

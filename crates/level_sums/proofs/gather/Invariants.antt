@@ -1,10 +1,17 @@
--- `level_sums::gather` meets its contract. The loop's invariant: the sums now are those of the first i points.
-use Rattle.std.proofs.Common.{◌≡◌, ◌-◌, ◌≤◌, length}
-use Rattle.rules.specs.Fit.{survey}
+-- The sums now are those of the first i points.
+use Rattle.std.proofs.Common.{◌≡◌, ℕ, ◌-◌, ◌^◌, ◌≤◌, List, length}
+use Rattle.std.specs.Prelude.{Float}
+use Rattle.algebra.specs.Table.{tabulate, over}
+use Rattle.rules.specs.Fit.{Survey, survey, point_at}
+use Rattle.level_sums.specs.Gathered.{sum_table}
 use Rattle.level_sums.proofs.gather.Given as goal
 
-abbrev pub invariant-loop : goal.invariant-loop
-invariant-loop l = (l.i ≤ length l.xs) × (length l.sums ≡ length l.initial.sums) × (l.sums ≡ first l.m l.n l.e (survey l.xs l.ys l.zs l.qs) l.i l.initial.sums)
+-- the sums of the first i points, laid over a slice
+abbrev pub first : ℕ → ℕ → ℕ → Survey → ℕ → List Float → List Float
+first m n e s i d = over (sum_table (2 ^ e) m n (tabulate i (point_at s))) d
 
-abbrev pub decreases-loop : goal.decreases-loop
-decreases-loop l = length l.xs - l.i
+abbrev pub invariant-loop-i : goal.invariant-loop-i
+invariant-loop-i l = (l.i ≤ length l.xs) × (length l.sums ≡ length l.initial.sums) × (l.sums ≡ first l.m l.n l.e (survey l.xs l.ys l.zs l.qs) l.i l.initial.sums)
+
+abbrev pub decreases-loop-i : goal.decreases-loop-i
+decreases-loop-i l = length l.xs - l.i
