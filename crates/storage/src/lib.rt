@@ -1,5 +1,6 @@
 // Pond storage: the litres that a raster of heights holds below a stage. It stands above the surface engine: of rasters it knows what they promise.
 #![tactic(auto)]
+
 ghost use Rattle.std.specs.Prelude.{◌≡◌, ◌+◌, ◌*◌, ◌≤◌, min, length, unsigned_abs};
 ghost use Rattle.rules.specs.Answers.{answer};
 ghost use Rattle.rules.specs.Grid.{limit};
