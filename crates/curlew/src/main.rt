@@ -1,11 +1,11 @@
 // The program: a point file on standard input, the lattice file or one line "refused N P" on standard output.
-// What it writes is the answer of respond::respond, which is proved; this file only reads and writes.
-// A read or a write that fails ends the program with its error.
+// What it writes is the rules' answer to its whole input, by the contract of answer; a read or a write that fails ends it with that error.
 #![tactic(auto)]
 
-ghost use Rattle.std.specs.Prelude.{◌≡◌, ◌<◌, IfOk, length, take};
+ghost use Rattle.std.specs.Prelude.{◌≡◌, ◌<◌, IfOk, IfSome, OnOk, length, take};
 ghost use Rattle.std.specs.Io.{ReadsAtMost};
-ghost use Rattle.std.specs.Io.KnownBytes.{Consumes, IsAtEnd};
+ghost use Rattle.std.specs.Io.KnownBytes.{Appends, Consumes, IsAtEnd};
+ghost use Rattle.rules.specs.Program.{program_output};
 
 use std::io::{self, Error, ErrorKind, Read, Write};
 
@@ -45,12 +45,19 @@ fn read_full<R: Read>(reader: &mut R, buf: &mut [u8]) -> io::Result<usize>
     Ok(done)
 }
 
-fn main(rt: HostRuntime) -> io::Result<()> {
+// Writes the answer to the bytes that the reader has left.
+fn answer<R: Read, W: Write>(reader: &mut R, writer: &mut W) -> io::Result<()>
+    ensures { OnOk result (IfSome (R.remaining reader.old) (λ input. Appends (W.contents writer.old) (W.contents writer.new) (program_output input))) }
+{
     // one byte more than is taken, to see that there are more
     let mut input = [0u8; 7509];
-    let n = read_full(&mut rt.stdin(), &mut input)?;
+    let n = read_full(reader, &mut input)?;
     let answer = respond::respond(&input[..n]);
     let bytes = answer.bytes;
     let len = answer.len;
-    rt.stdout().write_all(&bytes[..len])
+    writer.write_all(&bytes[..len])
+}
+
+fn main(rt: HostRuntime) -> io::Result<()> {
+    answer(&mut rt.stdin(), &mut rt.stdout())
 }
