@@ -6,7 +6,7 @@ use Rattle.std.proofs.lemmas.Int.{to_z-of_z}
 use Rattle.algebra.specs.Table.{tabulate}
 use Rattle.rules.specs.Grid.{controls}
 use Rattle.rules.specs.Level as rule
-use Rattle.rules.specs.Laws.Basis.{offset_within}
+use Rattle.rules.proofs.Laws.Basis.{offset_within}
 use Rattle.basis.specs.Weighing.{Located}
 use Rattle.basis.specs.declared.Spot.{Spot}
 use Rattle.weights.specs.Block.{block_of, weight_at, point_block}

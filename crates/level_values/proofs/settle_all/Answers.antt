@@ -7,7 +7,7 @@ use Rattle.machine.specs.Tests.{plain}
 use Rattle.rules.specs.Answers as answer
 use Rattle.rules.specs.Fit.{present, or_zero}
 use Rattle.rules.specs.Level as rule
-use Rattle.rules.specs.Laws.Checks.{then_none, first_of_at}
+use Rattle.rules.proofs.Laws.Checks.{then_none, first_of_at}
 use Rattle.float_near.specs.Settled.{settled_value}
 use Rattle.point_sums.specs.Sums.{pair_at}
 use Rattle.level_values.specs.Values.{settled_at, SettledAll}

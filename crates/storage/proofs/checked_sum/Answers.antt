@@ -7,8 +7,9 @@ use Rattle.machine.specs.Held.{Held, itself, read, small}
 use Rattle.rules.specs.Grid.{limit}
 use Rattle.rules.specs.Answers.{range, Check, first_of, range_check}
 use Rattle.rules.specs.Storage.{depths, heights_check}
-use Rattle.rules.specs.Laws.Checks.{then_none, AllInRange, Part, range_check_size, range_check_part, range_check_longer, none_answer, some_answer}
-use Rattle.rules.specs.Laws.Storage.{sum_most, place_most, depths_part}
+use Rattle.rules.specs.Laws.Checks.{AllInRange, Part}
+use Rattle.rules.proofs.Laws.Checks.{then_none, range_check_size, range_check_part, range_check_longer, none_answer, some_answer}
+use Rattle.rules.proofs.Laws.Storage.{sum_most, place_most, depths_part}
 use Rattle.storage.proofs.checked_sum.Goals as goal
 
 -- ---- a block: w heights from place i on

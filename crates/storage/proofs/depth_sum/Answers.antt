@@ -5,7 +5,7 @@ use Rattle.machine.specs.Held.{Held, itself, read, small}
 use Rattle.rules.specs.Grid.{limit}
 use Rattle.rules.specs.Storage as rule
 use Rattle.rules.specs.Laws.Checks.{AllInRange}
-use Rattle.rules.specs.Laws.Storage.{depth_most, sum_most}
+use Rattle.rules.proofs.Laws.Storage.{depth_most, sum_most}
 use Rattle.storage.proofs.depth_sum.Goals as goal
 
 -- a number in range, by its bits, read back

@@ -1,6 +1,6 @@
 -- The two parts make up the floor.
 use Rattle.std.proofs.Common.{sym}
-use Rattle.rules.specs.Laws.Storage.{litres_parts}
+use Rattle.rules.proofs.Laws.Storage.{litres_parts}
 use Rattle.storage.proofs.litres.Goals as goal
 
 pub returns : goal.returns

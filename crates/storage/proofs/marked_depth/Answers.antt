@@ -6,7 +6,7 @@ use Rattle.std.specs.Int.{w64}
 use Rattle.std.specs.Int.Bits.{bit_and, and_mask, and_zero_r}
 use Rattle.machine.specs.Tests.{plain}
 use Rattle.rules.specs.Storage.{depth}
-use Rattle.rules.specs.Laws.Storage.{depth_most}
+use Rattle.rules.proofs.Laws.Storage.{depth_most}
 use Rattle.storage.specs.Over.{Over, dry, wet}
 use Rattle.storage.proofs.marked_depth.Goals as goal
 

@@ -7,7 +7,7 @@ use Rattle.rules.specs.Grid.{within}
 use Rattle.rules.specs.Answers.{short, side, require, ◌then◌}
 use Rattle.rules.specs.Calls.{counts_check}
 use Rattle.rules.specs.Storage.{side_check, pond_check}
-use Rattle.rules.specs.Laws.Checks.{then_none}
+use Rattle.rules.proofs.Laws.Checks.{then_none}
 use Rattle.storage.proofs.pond_checks.Goals as goal
 
 -- ---- the check, by what was found

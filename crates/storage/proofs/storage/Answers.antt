@@ -8,9 +8,9 @@ use Rattle.rules.specs.Grid.{in_range}
 use Rattle.rules.specs.Answers.{Refusal, range, require, Answer, accepted, refused, answer}
 use Rattle.rules.specs.Calls.{stage_check}
 use Rattle.rules.specs.Storage.{depths, litres, storage, pond_check, heights_check, storage_check, storage_answer}
-use Rattle.rules.specs.Laws.Checks.{then_none, then_some, answer_none, answer_value, answer_refused, none_answer, some_answer}
-use Rattle.rules.specs.Laws.Passed.{stage_passed}
-use Rattle.rules.specs.Laws.Storage.{sum_most, pond_passed, heights_passed}
+use Rattle.rules.proofs.Laws.Checks.{then_none, then_some, answer_none, answer_value, answer_refused, none_answer, some_answer}
+use Rattle.rules.proofs.Laws.Passed.{stage_passed}
+use Rattle.rules.proofs.Laws.Storage.{sum_most, pond_passed, heights_passed}
 use Rattle.storage.specs.Sampled.{Sampled, sampled_answer, sampled_answer_lem}
 use Rattle.storage.proofs.storage.Goals as goal
 
