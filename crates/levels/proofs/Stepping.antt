@@ -1,13 +1,7 @@
 -- One level and all levels: the checks of a level's two halves are those of the level, and the levels' are those of the fit.
-use mathlib.Core.Path.{◌≡◌, refl, sym, ap, subst, ◌∙◌}
-use mathlib.Core.Option.{none, some}
-use mathlib.Core.List.{List}
-use Prim.Native.Nat.{ℕ, zero, suc, ◌+◌, ◌-◌, ◌*◌, ◌%◌, ◌≤◌, ◌<◌}
-use native.Mathlib.Omega.{arith}
-use native.Mathlib.Numerals.{add-one}
-use lib.Ieee.{Float}
-use lib.IntN.{ℤ}
-use lib.ListN.{length}
+use Rattle.std.proofs.Common.{◌≡◌, refl, sym, ap, subst, ◌∙◌, List, ℕ, zero, suc, ◌+◌, ◌-◌, ◌*◌, ◌%◌, ◌≤◌, ◌<◌, arith, add-one, ℤ, length}
+use Rattle.std.specs.Float.Ieee.{Float}
+use Rattle.std.proofs.Math.Option.{none, some}
 use Rattle.algebra.specs.Table.{Free, area, free_between, free_length, free_again}
 use Rattle.rules.specs.Answers.{Refusal, Check, ◌then◌, first_of}
 use Rattle.rules.specs.Grid.{cells_at}
@@ -36,7 +30,7 @@ level_ready {a = a} {k = k} p b l m_is n_is = record {
   placed = λ i h. record {
     x_inside = rw (unit_is a k l, m_is, span a.m0 a.h k l) (p.placed i h).x_inside;
     y_inside = rw (unit_is a k l, n_is, span a.n0 a.h k l) (p.placed i h).y_inside;
-    z_size = b.residuals-there.ranged i h;
+    z_size = b.residuals_there.ranged i h;
     q_some = (p.placed i h).q_some;
     q_most = (p.placed i h).q_most;
   };
@@ -127,6 +121,6 @@ module _ {a : Shape} {s : Survey} {most k : ℕ} {whole₀ whole : List ℤ} {fl
         leaves = λ _. record {
           lattice_is = ap (λ c. area (a.h % 2 * most) c whole) l.most_is ∙ (p.before.running_before a.h (omega arith)).is;
           lattice_ranged = rw l.most_is (p.before.running_before a.h (omega arith)).ranged;
-          residuals_are = rw last at p.before.residuals-there.is;
+          residuals_are = rw last at p.before.residuals_there.is;
         };
       }

@@ -2,6 +2,7 @@
 // Whole scratch, with K control values at level h: the running lattice after an even level at 0, after an odd one at K; the level lattice at 2K;
 // the residuals at 3K.
 #![tactic(auto)]
+
 ghost use Rattle.std.specs.Prelude.{◌≡◌, List, ◌+◌, ◌*◌, ◌≤◌, ℤ, length};
 ghost use Rattle.algebra.specs.Table.{Free};
 ghost use Rattle.rules.specs.Grid.{cells_at};
