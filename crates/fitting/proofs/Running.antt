@@ -1,13 +1,9 @@
 -- What the levels leave, with the base in its lattice and once it is cleared, is the rules' end of the fit.
-use mathlib.Core.Path.{◌≡◌, sym, ap, ap₂, ◌∙◌}
-use mathlib.Core.Bool.{Bool, true, false}
-use mathlib.Core.Option.{none, some}
-use mathlib.Core.List.{List, ◌++◌}
-use Prim.Native.Nat.{ℕ, ◌+◌, ◌-◌, ◌*◌, ◌%◌, ◌≤◌}
-use native.Mathlib.Omega.{arith}
-use lib.Ieee.{Float}
-use lib.IntN.{ℤ, pos, neg_ℤ, ◌-ℤ◌, +ℤ_idl}
-use lib.ListN.{length, take, drop, replicate, length-take, length-drop, length-replicate}
+use Rattle.std.proofs.Common.{◌≡◌, sym, ap, ap₂, ◌∙◌, Bool, true, false, List, ◌++◌, ℕ, ◌+◌, ◌-◌, ◌*◌, ◌%◌, ◌≤◌, arith, ℤ, pos, neg_ℤ, ◌-ℤ◌, length, take, drop, replicate, length-take, length-drop}
+use Rattle.std.proofs.Math.IntN.{+ℤ_idl}
+use Rattle.std.proofs.lemmas.List.{length-replicate}
+use Rattle.std.specs.Float.Ieee.{Float}
+use Rattle.std.proofs.Math.Option.{none, some}
 use Rattle.algebra.specs.Table.{Free, over, laid, area, length_area, area_part, laid_part, area_laid, over_past, free_length, free_drop}
 use Rattle.rules.specs.Grid.{cells_at}
 use Rattle.rules.specs.Level.{zero64}
@@ -26,7 +22,7 @@ use Rattle.scratch.specs.Scratch.{Levelable, survey_at, Levelled, area_within}
 -- what `shift` writes there, by x, which is 0 less the base
 pub less_base : (zs d : List ℤ) {x : ℤ} {part : List ℤ} → x ≡ pos 0 -ℤ base zs → part ≡ over (shifted x zs) d → part ≡ over (differences zs) d
 unfolding differences
-less_base zs d x-is e = e ∙ ap (λ y. over (shifted y zs) d) (x-is ∙ +ℤ_idl (neg_ℤ (base zs)))
+less_base zs d x_is e = e ∙ ap (λ y. over (shifted y zs) d) (x_is ∙ +ℤ_idl (neg_ℤ (base zs)))
 
 -- there is room for them
 pub differences_fit : {a : Shape} {xs ys qs : List ℕ} {most F : ℕ} (zs whole : List ℤ) → Levelable a (from_base (survey xs ys zs qs)) most (length whole) F
@@ -115,11 +111,11 @@ module _ {a : Shape} {xs ys qs : List ℕ} {most F : ℕ} (zs whole : List ℤ) 
 
       -- ---- and the base in its lattice
 
-      module _ {b : ℤ} (b-is : b ≡ base zs) (fine : found ≡ none) (ok : Bool)
+      module _ {b : ℤ} (b_is : b ≡ base zs) (fine : found ≡ none) (ok : Bool)
           (judged : (r : Refusal) → range_check (length (take (at + most - at) (drop at now))) (shifted b (take (at + most - at) (drop at now))) (λ i. r) ≡ ok_check ok r) where
         final_lattice : shifted b (area at most now) ≡ single_lattice a s
         unfolding single_lattice
-        final_lattice = ap₂ shifted b-is (done.leaves fine).lattice_is
+        final_lattice = ap₂ shifted b_is (done.leaves fine).lattice_is
 
         found_final : in_levels_check a s ≡ ok_check ok (sum a.h)
         unfolding in_levels_check final_check K
@@ -138,8 +134,8 @@ module _ {a : Shape} {xs ys qs : List ℕ} {most F : ℕ} (zs whole : List ℤ) 
             → l ≡ over (shifted b (area at most now)) lattice → r ≡ over (area (3 * most) many now) residual
             → outcome (accepted (record { m = m; n = n })) (cleared a many (lent l r now sums)) ≡ fit_end a s (lent lattice residual whole floats) (in_levels_check a s)
         unfolding fit_end results last_residuals columns rows
-        run_accepted {l = l} {r = r} e m_is n_is l-is r-is =
+        run_accepted {l = l} {r = r} e m_is n_is l_is r_is =
             let passed : in_levels_check a s ≡ none = found_final ∙ ap (λ ok. ok_check ok (sum a.h)) e in
-            let lattice_is : l ≡ over (single_lattice a s) lattice = l-is ∙ ap (λ v. over v lattice) final_lattice in
-            let residual-is : r ≡ over (last_residuals a s) residual = r-is ∙ ap (λ v. over v residual) (done.leaves fine).residuals_are in
-            rw (passed, m_is, n_is, scratch_cleared l r, lattice_is, residual-is)
+            let lattice_is : l ≡ over (single_lattice a s) lattice = l_is ∙ ap (λ v. over v lattice) final_lattice in
+            let residual_is : r ≡ over (last_residuals a s) residual = r_is ∙ ap (λ v. over v residual) (done.leaves fine).residuals_are in
+            rw (passed, m_is, n_is, scratch_cleared l r, lattice_is, residual_is)

@@ -1,6 +1,7 @@
 // A survey whose checks have passed, fitted: residuals that start as the differences from the base, the levels, the base again, and the results in the
 // caller's slices.
 #![tactic(auto)]
+
 ghost use Rattle.std.specs.Prelude.{◌≡◌, ◌≤◌, length};
 ghost use Rattle.rules.specs.Answers.{outcome};
 ghost use Rattle.rules.specs.Fit.{shape, survey, base as base_of, from_base, in_levels_check};
