@@ -1,15 +1,8 @@
 -- What the fit answers and leaves: a refusal before the levels is the rules' and leaves all as it was; what `run` leaves, cleared, is the rules'.
-use mathlib.Core.Path.{◌≡◌, sym, ap, subst, ◌∙◌}
-use mathlib.Core.Bool.{◌&&◌}
-use mathlib.Core.Option.{none, some}
-use mathlib.Core.List.{List}
-use Prim.Native.Nat.{ℕ, ◌+◌, ◌-◌, ◌*◌, ◌≤◌}
-use native.Mathlib.Omega.{arith}
-use lib.Dec.{leb, leb→le}
-use lib.Ieee.{Float}
-use lib.IntN.{ℤ, pos}
-use lib.ListN.{length, replicate}
-use mir.Facts.{and_yes}
+use Rattle.std.proofs.Common.{◌≡◌, sym, ap, subst, ◌∙◌, ◌&&◌, List, ℕ, ◌+◌, ◌*◌, ◌≤◌, arith, leb, leb→le, ℤ, pos, length, replicate}
+use Rattle.std.proofs.Math.Facts.{and_yes}
+use Rattle.std.specs.Float.Ieee.{Float}
+use Rattle.std.proofs.Math.Option.{none, some}
 use Rattle.algebra.specs.Table.{over}
 use Rattle.rules.specs.Grid.{cells_at, controls}
 use Rattle.rules.specs.Level.{zero64}

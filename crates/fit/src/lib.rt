@@ -1,6 +1,7 @@
 // The whole fit: from points to one lattice, behind the checks of documents 01 and 02, in slices that the caller lends.
 // Lattice and residuals are written once, at the end, so that a refusal leaves them as they were; then the scratch is cleared.
 #![tactic(auto)]
+
 ghost use Rattle.std.specs.Prelude.{◌≡◌, ◌≤◌, length};
 ghost use Rattle.rules.specs.Answers.{◌then◌, answer, outcome};
 ghost use Rattle.rules.specs.Fit.{shape, survey, base, difference_check};
