@@ -171,11 +171,6 @@ pub at_the_brink : Brink
 unfolding single_lattice last_residuals in_levels_check final_check shifted differences base near_mean total running levels_check level_check quotient_check residual_check sum_check range_check lowered level_height height along weighted control level level_of level_value fitted_at gathered touched uses weight basis squares add_squares grown no_sums coefficient settled kept near_float signed near near_up near_down even floor or_zero residuals store controls columns rows unit_of cells_at unit_at tabulate points_of cell offset numerator denominator square cube in_range present require ◌then◌ first_of lt of_bits add mul div of_int
 at_the_brink = record { quotient_is = refl; residual = refl; lattice = refl; accepted_levels = refl }
 
-pub brink_accepted : (lent : Lent) → lent_check one 3 lent ≡ none
-    → fit_call one brink lent ≡ outcome (accepted (record { m = 1; n = 1 })) (cleared one 3 (results one brink lent))
-unfolding fit_call fit_end fit_check survey_check cells_check h_check lists_check points_check point_check spot_check confident difference_check differences shifted base near_mean total near near_up near_down even floor tabulate range_check within inside in_range columns rows cells_at first_of require ◌then◌
-brink_accepted lent room = rw (room, at_the_brink.accepted_levels) refl
-
 -- ---- no points
 
 get_d_zeros : (n i : ℕ) → get_or (zeros n) i (pos 0) ≡ pos 0

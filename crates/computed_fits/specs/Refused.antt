@@ -55,7 +55,7 @@ range_before_confidence lent room = rw room refl
 -- ---- in the levels
 
 -- a call whose survey passes every check before the levels, and is refused in them
-refused_call : (a : Shape) (s : Survey) (lent : Lent) (r : Refusal) → early_check a s lent ≡ none → in_levels_check a s ≡ some r
+pub refused_call : (a : Shape) (s : Survey) (lent : Lent) (r : Refusal) → early_check a s lent ≡ none → in_levels_check a s ≡ some r
     → fit_call a s lent ≡ outcome (refused r) (cleared a (point_count s) lent)
 unfolding fit_call fit_end ◌then◌
 refused_call a s lent r early e = rw (grouped a s lent, early, e, (in_levels_only a s).only r e) refl
@@ -181,20 +181,16 @@ crest = survey (0 ∷ 16 ∷ []) (0 ∷ 16 ∷ []) (pos 4_000_000_000 ∷ pos 2_
 abbrev crest_differences : List ℤ
 crest_differences = pos 1_000_000_000 ∷ neg_ℤ (pos 1_000_000_000) ∷ []
 
-record Crest : Type 0 where
-  from_base : differences crest.zs ≡ crest_differences
-  levels_fine : levels_check one (valued crest crest_differences) ≡ none
-  base_is : base crest.zs ≡ pos 3_000_000_000
-  too_high : range_check 16 (shifted (pos 3_000_000_000) (running one (valued crest crest_differences) 0)) (λ q. sum 0) ≡ some (sum 0)
+pub record Crest : Type 0 where
+  pub from_base : differences crest.zs ≡ crest_differences
+  pub levels_fine : levels_check one (valued crest crest_differences) ≡ none
+  pub base_is : base crest.zs ≡ pos 3_000_000_000
+  pub too_high : range_check 16 (shifted (pos 3_000_000_000) (running one (valued crest crest_differences) 0)) (λ q. sum 0) ≡ some (sum 0)
 
-crest_levels : Crest
+pub crest_levels : Crest
 unfolding differences shifted base near_mean total running levels_check level_check quotient_check residual_check sum_check range_check lowered level_height height along weighted control level level_of level_value fitted_at gathered touched uses weight basis squares add_squares grown no_sums coefficient settled kept near_float signed near near_up near_down even floor or_zero residuals store controls columns rows unit_of cells_at unit_at tabulate points_of cell offset numerator denominator square cube in_range present require ◌then◌ first_of lt of_bits add mul div of_int
 crest_levels = record { from_base = refl; levels_fine = refl; base_is = refl; too_high = refl }
 
-crest_figures : in_levels_check one crest ≡ some (sum 0)
+pub crest_figures : in_levels_check one crest ≡ some (sum 0)
 unfolding in_levels_check final_check single_lattice columns rows cells_at controls
 crest_figures = rw (crest_levels.from_base, crest_levels.base_is) (then_none _ _ crest_levels.levels_fine ∙ crest_levels.too_high)
-
-pub final_refused : (lent : Lent) → lent_check one 2 lent ≡ none → fit_call one crest lent ≡ outcome (refused (sum 0)) (cleared one 2 lent)
-unfolding difference_check range_check survey_check cells_check h_check lists_check points_check point_check spot_check confident within inside in_range columns rows cells_at first_of require ◌then◌
-final_refused lent room = refused_call one crest lent (sum 0) (rw (room, crest_levels.from_base) refl) crest_figures

@@ -1,0 +1,2 @@
+pub mod Brink
+pub mod FinalSum
