@@ -6,7 +6,7 @@ ghost use Rattle.rules.specs.Answers as rule;
 ghost use Rattle.answers.specs.Cause.{cause};
 
 // The causes, in the rules' order. One that has a place holds it.
-#[derive(Drop)]
+#[derive(Clone, Copy)]
 pub enum Refusal {
     Cells,
     Levels,
