@@ -1,10 +1,7 @@
 -- A stage, or the one past the highest, read back from its bits.
-use mathlib.Core.Path.{◌≡◌, ◌∙◌}
-use Prim.Native.Nat.{ℕ, ◌≤◌}
-use native.Mathlib.Omega.{arith}
-use lib.IntN.{ℤ, nat_abs}
-use mir.Syntax.{w64}
-use mir.Val.{to_z, of_z}
+use Rattle.std.proofs.Common.{◌≡◌, ◌∙◌, ℕ, ◌≤◌, arith, to_z, of_z}
+use Rattle.std.specs.Prelude.{ℤ, nat_abs}
+use Rattle.std.specs.Int.{w64}
 use Rattle.algebra.specs.Difference.{whole}
 use Rattle.machine.specs.Held.{itself, read}
 use Rattle.rules.specs.Stage.{stage_at}

@@ -1,15 +1,11 @@
 -- The search's bracket: numbers of stages below both `low` and `high` sum up to less than is needed, and that of `high` doesn't, or is past the last. What a stage that is
 -- tried between them tells of both ends, and why each try halves the bracket.
-use mathlib.Core.Path.{◌≡◌, sym, ap, subst}
-use mathlib.Core.Logic.{◌⊎◌, ⊎_elim, inl, inr}
-use mathlib.Core.List.{List}
-use Prim.Native.Nat.{ℕ, zero, suc, ◌+◌, ◌-◌, ◌*◌, ◌/◌, ◌^◌, ◌≤◌, ◌<◌}
-use native.Mathlib.Nat.{mul-le-mul_left, mul-le-mul_right, mul-div-le, div-lt_iff_lt-mul, add-sub_of_le, sub-add_cancel, zero-add}
-use native.Mathlib.Decide.{dec_lt}
-use native.Mathlib.Omega.{arith}
-use borrow.Author.Tests.{le-leb, lt-leb}
-use lib.Dec.{leb}
-use lib.IntN.{ℤ}
+use Rattle.std.proofs.Common.{◌≡◌, sym, ap, subst, ◌⊎◌, List, ℕ, zero, suc, ◌+◌, ◌-◌, ◌*◌, ◌/◌, ◌^◌, ◌≤◌, ◌<◌, arith, leb}
+use Rattle.std.proofs.Math.Logic.{⊎_elim, inl, inr}
+use Rattle.std.proofs.Math.Nat.{mul-le-mul_left, mul-le-mul_right, mul-div-le, div-lt_iff_lt-mul, add-sub_of_le, sub-add_cancel, zero-add}
+use Rattle.std.proofs.Math.Decide.{dec_lt}
+use Rattle.std.proofs.lemmas.Bool.{le-leb, lt-leb}
+use Rattle.std.specs.Prelude.{ℤ}
 use Rattle.algebra.specs.Size.{ceil_le}
 use Rattle.rules.specs.Storage.{depths}
 use Rattle.rules.specs.Stage.{lowest_of, stage_at}

@@ -1,12 +1,7 @@
 -- A part of a raster: what one node, and some, add to the sum of depths and to the count of wet nodes.
-use mathlib.Core.Path.{◌≡◌, ap}
-use mathlib.Core.List.{List}
-use Prim.Native.Nat.{ℕ, zero, suc, ◌+◌, ◌*◌, ◌≤◌, min}
-use native.Mathlib.Numerals.{add-one}
-use native.Mathlib.Nat.{add-zero, add-suc}
-use native.Mathlib.Omega.{arith}
-use lib.IntN.{ℤ, pos, nat_abs}
-use lib.ListN.{get_or}
+use Rattle.std.proofs.Common.{◌≡◌, ap, List, ℕ, zero, suc, ◌+◌, ◌*◌, ◌≤◌, min, add-one, arith, get_or}
+use Rattle.std.proofs.Math.Nat.{add-zero, add-suc}
+use Rattle.std.specs.Prelude.{ℤ, pos, nat_abs}
 use Rattle.rules.specs.Grid.{limit}
 use Rattle.rules.specs.Storage.{depth, depths}
 use Rattle.rules.specs.Laws.Checks.{AllInRange}

@@ -1,6 +1,7 @@
 // Stage for a wanted storage: the lowest stage in range that stores at least the wanted litres. It stands above the storage: that a higher stage never
 // stores less is what makes a search find it. Stages go by their numbers, 0 for -4,000,000,000 and so on.
 #![tactic(auto)]
+
 ghost use Rattle.std.specs.Prelude.{◌≡◌, ℕ, ◌+◌, ◌-◌, ◌*◌, ◌/◌, ◌≤◌, ◌<◌, leb, ℤ, pos, nat_abs, length, get_or, ◌≤ℤ◌};
 ghost use Rattle.rules.specs.Answers.{accepted};
 ghost use Rattle.rules.specs.Grid.{limit};

@@ -1,13 +1,17 @@
--- `stages::block_at` meets its contract. The loop's invariant: the sum has what the nodes passed add.
-use mathlib.Core.Path.{◌≡◌}
-use Prim.Native.Nat.{◌+◌, ◌-◌, ◌*◌, ◌≤◌}
-use mir.Syntax.{w64}
-use mir.Val.{to_z}
+-- The loop keeps: the sum has what the nodes passed add.
+use Rattle.std.proofs.Common.{◌≡◌, ℕ, ◌+◌, ◌-◌, ◌*◌, ◌≤◌, List}
+use Rattle.std.specs.Prelude.{ℤ}
+use Rattle.rules.specs.Storage.{depths}
+use Rattle.rules.specs.Laws.Stage.{wets}
 use Rattle.stages.proofs.block_at.Given as goal
 
-abbrev pub invariant-loop : goal.invariant-loop
-invariant-loop l =
-    (l.start ≤ l.i) × (l.i ≤ l.end) × (l.sum + total l.heights (to_z w64 l.stage) l.start ≡ total l.heights (to_z w64 l.stage) l.i) × (l.sum ≤ (l.i - l.start) * 1_200_000_000_000)
+-- the depths and the marks of the first i nodes
+abbrev pub total : List ℤ → ℤ → ℕ → ℕ
+total heights stage i = depths i heights stage + wets i heights stage * 1_099_511_627_776
 
-abbrev pub decreases-loop : goal.decreases-loop
-decreases-loop l = l.end - l.i
+abbrev pub invariant-loop-i : goal.invariant-loop-i
+invariant-loop-i l =
+    (l.start ≤ l.i) × (l.i ≤ l.end) × (l.sum + total l.heights l.stage l.start ≡ total l.heights l.stage l.i) × (l.sum ≤ (l.i - l.start) * 1_200_000_000_000)
+
+abbrev pub decreases-loop-i : goal.decreases-loop-i
+decreases-loop-i l = l.end - l.i

@@ -1,11 +1,15 @@
--- `stages::dry_number` meets its contract. The loop's invariant: the "or" is no less than any depth passed.
-use Prim.Native.Nat.{◌-◌, ◌≤◌}
-use mir.Syntax.{w64}
-use mir.Val.{to_z}
+-- The loop keeps: the "or" is no less than any depth passed.
+use Rattle.std.proofs.Common.{ℕ, ◌-◌, ◌≤◌, ◌<◌, List, get_or}
+use Rattle.std.specs.Prelude.{ℤ, pos}
+use Rattle.rules.specs.Storage.{depth}
 use Rattle.stages.proofs.dry_number.Given as goal
 
-abbrev pub invariant-loop : goal.invariant-loop
-invariant-loop l = (l.i ≤ l.n) × Reaches (to_z w64 l.first) l.heights l.i l.deepest
+-- no depth of the first i heights below `first` is more than this
+abbrev pub Reaches : ℤ → List ℤ → ℕ → ℕ → Type 0
+Reaches first heights i deepest = (j : ℕ) → j < i → depth first (get_or heights j (pos 0)) ≤ deepest
 
-abbrev pub decreases-loop : goal.decreases-loop
-decreases-loop l = l.n - l.i
+abbrev pub invariant-loop-i : goal.invariant-loop-i
+invariant-loop-i l = (l.i ≤ l.n) × Reaches l.first l.heights l.i l.deepest
+
+abbrev pub decreases-loop-i : goal.decreases-loop-i
+decreases-loop-i l = l.n - l.i
