@@ -99,15 +99,15 @@ module _ {a : Shape} {s : Survey} {most k : ℕ} {whole : List ℤ} {m n : ℕ} 
         × ((from + before ≤ length whole) × (to + controls (2 * (m / 2)) (2 * (n / 2)) ≤ length whole)
         × Apart from before to (controls (2 * (m / 2)) (2 * (n / 2))) × AllInRange before (area from before whole))
     refinable =
-        let few-before : before ≤ most = rw before_is (few z j (omega arith)) in
-        let few-refined : controls (2 * (m / 2)) (2 * (n / 2)) ≤ most = rw refined_is (few z k (omega arith)) in
+        let few_before : before ≤ most = rw before_is (few z j (omega arith)) in
+        let few_refined : controls (2 * (m / 2)) (2 * (n / 2)) ≤ most = rw refined_is (few z k (omega arith)) in
         let across = doubled_columns z j next in
         let up = doubled_rows z j next in (
           omega (arith, z, across, up),
           (
             omega (arith, area_within j most),
             omega (arith, to_within),
-            turns j k most _ _ next few-before few-refined,
+            turns j k most _ _ next few_before few_refined,
             rw (running_is, before_is) there.ranged,
           ),
         )
