@@ -6,8 +6,9 @@ use Rattle.rules.specs.Grid.{limit}
 use Rattle.rules.specs.Answers.{Check, ◌then◌, Answer, answer}
 use Rattle.rules.specs.Fit.{Survey, survey, total}
 use Rattle.rules.specs.Calls.{points_check}
-use Rattle.rules.specs.Laws.Base.{total_size}
-use Rattle.rules.specs.Laws.Checks.{AllInRange, then_none, then_some, some_answer}
+use Rattle.rules.proofs.Laws.Base.{total_size}
+use Rattle.rules.specs.Laws.Checks.{AllInRange}
+use Rattle.rules.proofs.Laws.Checks.{then_none, then_some, some_answer}
 use Rattle.point_checks.specs.Told as points
 use Rattle.fit.proofs.Answering.{heights_ranged}
 use Rattle.fit.proofs.base_of.Goals as goal

@@ -6,9 +6,11 @@ use Rattle.rules.specs.Grid.{limit}
 use Rattle.rules.specs.Answers.{Check, ◌then◌}
 use Rattle.rules.specs.Fit.{Shape, shape, Survey, survey, point_count, columns, rows, base, difference_check}
 use Rattle.rules.specs.Calls.{Lent, lent, survey_check, room_check, lent_check, points_check}
-use Rattle.rules.specs.Laws.Base.{base_size}
-use Rattle.rules.specs.Laws.Checks.{then_first, AllInRange}
-use Rattle.rules.specs.Laws.Passed.{Surveyed, survey_passed}
+use Rattle.rules.proofs.Laws.Base.{base_size}
+use Rattle.rules.specs.Laws.Checks.{AllInRange}
+use Rattle.rules.proofs.Laws.Checks.{then_first}
+use Rattle.rules.specs.Laws.Passed.{Surveyed}
+use Rattle.rules.proofs.Laws.Passed.{survey_passed}
 use Rattle.answers.specs.Cause.{check}
 use Rattle.scratch.specs.Scratch.{Celled}
 use Rattle.fit.proofs.Answering.{pointed, refused_head, refused_room, refused_points, run_cleared, heights_ranged, base_told, base_refused, room_is, Roomy, roomy, finest_celled, most_is, points_is, run_ready}

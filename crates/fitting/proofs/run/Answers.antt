@@ -5,7 +5,7 @@ use Rattle.machine.specs.Held.{Number, number, Held, literal, read, minus, fits,
 use Rattle.rules.specs.Grid.{limit}
 use Rattle.rules.specs.Fit as rule
 use Rattle.rules.specs.Laws.Checks.{AllInRange}
-use Rattle.rules.specs.Laws.Base.{base_size}
+use Rattle.rules.proofs.Laws.Base.{base_size}
 use Rattle.answers.specs.Cause.{check}
 use Rattle.scratch.specs.Scratch.{part_ranged}
 use Rattle.fitting.proofs.Running.{less_base, differences_fit, levelable, lattice_ranged, lattice_room, run_refused, final_refused, run_accepted}

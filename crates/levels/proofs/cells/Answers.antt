@@ -1,5 +1,5 @@
 -- The shift loses no bits.
-use Rattle.rules.specs.Laws.Passed.{cells_at_shifted}
+use Rattle.rules.proofs.Laws.Passed.{cells_at_shifted}
 use Rattle.levels.proofs.cells.Goals as goal
 
 pub returns : goal.returns

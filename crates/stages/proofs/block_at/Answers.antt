@@ -4,7 +4,7 @@ use Rattle.std.specs.Int.{w64}
 use Rattle.machine.specs.Held.{Held, itself, read, small}
 use Rattle.rules.specs.Grid.{limit}
 use Rattle.rules.specs.Storage.{depth}
-use Rattle.rules.specs.Laws.Storage.{depth_most}
+use Rattle.rules.proofs.Laws.Storage.{depth_most}
 use Rattle.stages.proofs.Parts.{depths_next, wets_next}
 use Rattle.stages.proofs.block_at.Goals as goal
 

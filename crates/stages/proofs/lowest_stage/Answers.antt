@@ -8,8 +8,10 @@ use Rattle.std.specs.Prelude.{ℤ, pos, negsuc}
 use Rattle.rules.specs.Storage.{depths, litres}
 use Rattle.rules.specs.Stage.{lowest_of, stage_at}
 use Rattle.rules.specs.Laws.Checks.{AllInRange}
-use Rattle.rules.specs.Laws.Storage.{litres_rise, depths_most}
-use Rattle.rules.specs.Laws.Stage.{lowest_of_found, lowest_of_most, lowest_of_same, stage_in_range, needed_sum, needed_stores, needed_some}
+use Rattle.rules.proofs.Laws.Storage.{litres_rise, depths_most}
+use Rattle.rules.specs.Laws.Stage.{needed_sum}
+use Rattle.rules.proofs.Laws.Stage.{lowest_of_found, lowest_of_most, lowest_of_same, stage_in_range, needed_some}
+use Rattle.rules.proofs.Laws.Needed.{needed_stores}
 use Rattle.stages.proofs.Back.{stage_back}
 use Rattle.stages.proofs.lowest_stage.Goals as goal
 

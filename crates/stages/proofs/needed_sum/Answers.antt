@@ -1,7 +1,8 @@
 -- The least sum in two parts, neither of which leaves 64 bits.
 use Rattle.std.proofs.Common.{ℕ, ◌+◌, ◌-◌, ◌*◌, ◌/◌, ◌%◌, ◌≤◌, ◌<◌, sym, ap, ◌∙◌, arith}
 use Rattle.rules.specs.Storage.{litres}
-use Rattle.rules.specs.Laws.Stage.{needed_stores, needed_parts}
+use Rattle.rules.proofs.Laws.Needed.{needed_stores}
+use Rattle.rules.proofs.Laws.Stage.{needed_parts}
 use Rattle.stages.proofs.needed_sum.Goals as goal
 
 -- both parts together

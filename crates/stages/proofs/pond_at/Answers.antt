@@ -6,8 +6,9 @@ use Rattle.machine.specs.Held.{Held, itself, read, small}
 use Rattle.rules.specs.Grid.{limit}
 use Rattle.rules.specs.Storage.{depths}
 use Rattle.rules.specs.Laws.Checks.{AllInRange}
-use Rattle.rules.specs.Laws.Storage.{sum_most}
-use Rattle.rules.specs.Laws.Stage.{wets, wets_most}
+use Rattle.rules.proofs.Laws.Storage.{sum_most}
+use Rattle.rules.specs.Laws.Stage.{wets}
+use Rattle.rules.proofs.Laws.Stage.{wets_most}
 use Rattle.stages.proofs.Parts.{depths_grow, wets_grow}
 use Rattle.stages.proofs.pond_at.Goals as goal
 

@@ -9,7 +9,8 @@ use Rattle.rules.specs.Grid.{limit}
 use Rattle.rules.specs.Storage.{depths}
 use Rattle.rules.specs.Stage.{lowest_of, stage_at}
 use Rattle.rules.specs.Laws.Checks.{AllInRange}
-use Rattle.rules.specs.Laws.Stage.{wets, wets_most, sum_none}
+use Rattle.rules.specs.Laws.Stage.{wets}
+use Rattle.rules.proofs.Laws.Stage.{wets_most, sum_none}
 use Rattle.stages.proofs.Bracket.{Bracket, middle_in, lower_half, upper_half, shut, risen_some, risen_most, raised, wet_some, fallen_most, lowered, is_lowest}
 use Rattle.stages.proofs.search.Goals as goal
 

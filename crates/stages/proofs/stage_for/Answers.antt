@@ -8,9 +8,9 @@ use Rattle.algebra.specs.Difference.{whole}
 use Rattle.rules.specs.Answers.{Refusal, range, no_stage, Answer, accepted, refused}
 use Rattle.rules.specs.Storage.{depths, litres, storage, pond_check, heights_check}
 use Rattle.rules.specs.Stage.{LowestStage, enough, lowest_of, stage_at, stage_for, stage_for_check, stage_for_answer}
-use Rattle.rules.specs.Laws.Checks.{then_none, then_some, none_answer, some_answer}
-use Rattle.rules.specs.Laws.Storage.{pond_passed, heights_passed, place_most}
-use Rattle.rules.specs.Laws.Stage.{lowest_of_most, answer_lowest, reach_refused, reach_passed}
+use Rattle.rules.proofs.Laws.Checks.{then_none, then_some, none_answer, some_answer}
+use Rattle.rules.proofs.Laws.Storage.{pond_passed, heights_passed, place_most}
+use Rattle.rules.proofs.Laws.Stage.{lowest_of_most, answer_lowest, reach_refused, reach_passed}
 use Rattle.stages.proofs.Back.{stage_back}
 use Rattle.stages.proofs.stage_for.Goals as goal
 
