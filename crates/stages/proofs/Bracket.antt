@@ -16,13 +16,6 @@ use Rattle.rules.proofs.Laws.Stage.{lowest_of_found, stage_order, sum_next, wets
 -- ---- halves: of a bracket of at most 2^left numbers, tried in its middle
 
 module _ {low high : ℕ} (left : ℕ) (open-yet : low < high) (few : high - low < 2 ^ left) where
-  pub left_some : 0 < left
-  left_some = go left few
-    where
-      go : (l : ℕ) → high - low < 2 ^ l → 0 < l
-      go zero h = absurd (omega arith)
-      go (suc l) h = omega arith
-
   pub middle_in : (low ≤ (low + high) / 2) × ((low + high) / 2 < high)
   middle_in = (omega arith, omega arith)
 

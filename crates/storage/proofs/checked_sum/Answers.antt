@@ -57,11 +57,8 @@ module _ (heights : List ℤ) (count : ℕ) (few : count ≤ 8_193 * 8_193) (i w
     all_in = with_block heights i w held before ∙ passed
 
     module _ (stage : ℤ) where
-      added : {sum depth : ℕ} → sum ≡ depths i heights stage → depth ≡ depths (length (block heights i w held)) (block heights i w held) stage → sum + depth ≡ depths (i + w) heights stage
-      added {sum} {depth} s d =
-          ap (λ v. sum + v) d
-          ∙ rw (block_length heights i w held)
-          (ap (λ s. s + depths w (block heights i w held) stage) s ∙ sym (depths_part i w heights (block heights i w held) stage (block_part heights i w held)))
+      grown : depths i heights stage + depths (length (block heights i w held)) (block heights i w held) stage ≡ depths (i + w) heights stage
+      grown = rw (block_length heights i w held) (sym (depths_part i w heights (block heights i w held) stage (block_part heights i w held)))
 
       sum_fits : unsigned_abs stage ≤ limit → depths (i + w) heights stage ≤ 537_001_992_000_000_000
       unfolding heights_check
@@ -82,7 +79,7 @@ loop-i-preserved c =
     let q = c.requires in
     let room : l.i + w ≤ a.count = omega arith in
     let held : l.i + w ≤ length a.heights.now = omega arith in
-    (room, all_in a.heights.now a.count q.1 l.i w room held l.invariant.1 passed, added a.heights.now a.count q.1 l.i w room held l.invariant.1 passed _ l.invariant.2 c.depth_sum-sum.ensures)
+    (room, all_in a.heights.now a.count q.1 l.i w room held l.invariant.1 passed, omega (arith, grown a.heights.now a.count q.1 l.i w room held l.invariant.1 passed (to_z w64 (of_z w64 a.stage))))
 
 pub returns-in-At : goal.returns-in-At
 returns-in-At c =
@@ -137,4 +134,4 @@ overflow_add-sum c =
     let held : l.i + w ≤ length a.heights.now = omega arith in
     let stage = to_z w64 (of_z w64 a.stage) in
     let passed = c.in_default.ensures (λ k. range (l.i + k + 1)) in
-    omega (arith, added a.heights.now a.count q.1 l.i w room held l.invariant.1 passed stage l.invariant.2 c.depth_sum-sum.ensures, sum_fits a.heights.now a.count q.1 l.i w room held l.invariant.1 passed stage (small limit tt (stage_held a.stage q.2)))
+    omega (arith, grown a.heights.now a.count q.1 l.i w room held l.invariant.1 passed stage, sum_fits a.heights.now a.count q.1 l.i w room held l.invariant.1 passed stage (small limit tt (stage_held a.stage q.2)))
