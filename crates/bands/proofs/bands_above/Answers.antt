@@ -54,7 +54,7 @@ loop-j-preserved-else-band_above c =
     let low = (c.band_above.ensures _ _ held.3 t).no c.if-band_above.false in
     let before = cells_before p.0 _ rows cut.2 cut.0 in
     let behind = cells_behind p.0 _ rows cut.2 in
-    (e.1, worked_out p.0 c.loop-j.invariant.1 c.locate-cell.ensures.cell_is e.0 e.2 (rows_before e.1 p.1) rows cut.0 cut.1 before behind low held.0 held.1 held.2 held.3)
+    (omega (arith, e.1), worked_out p.0 c.loop-j.invariant.1 c.locate-cell.ensures.cell_is e.0 e.2 (rows_before e.1 p.1) rows cut.0 cut.1 before behind low held.0 held.1 held.2 held.3)
 
 pub loop-j-preserved : goal.loop-j-preserved
 loop-j-preserved c =
@@ -64,4 +64,4 @@ loop-j-preserved c =
     let rows = c.look.ensures in
     let before = cells_before p.0 _ rows cut.2 cut.0 in
     let behind = cells_behind p.0 _ rows cut.2 in
-    (e.1, passed_over p.0 c.loop-j.invariant.1 c.locate-cell.ensures.cell_is e.0 e.2 (rows_before e.1 p.1) rows cut.0 cut.1 before behind c.if-due.false)
+    (omega (arith, e.1), passed_over p.0 c.loop-j.invariant.1 c.locate-cell.ensures.cell_is e.0 e.2 (rows_before e.1 p.1) rows cut.0 cut.1 before behind c.if-due.false)
