@@ -1,12 +1,11 @@
 -- A raster as it is promised: what an accepted call of `raster` leaves, in the words of its contract; and what of it storage can then refuse.
 use Rattle.std.specs.Prelude.{◌≡◌, ℕ, ◌+◌, ◌*◌, List, length, ℤ, nat_le, refl}
-use Rattle.std.proofs.Math.Path.{ap}
 use Rattle.std.proofs.Common.{◌∙◌, le→leb}
 use Rattle.std.proofs.Math.Option.{none}
 use Rattle.rules.specs.Answers.{short, range, require, ◌then◌, Answer, accepted, answer, outcome, call}
 use Rattle.rules.specs.Calls.{Nodes, counts_check, nodes, raster_check, raster_call, stage_check}
-use Rattle.rules.specs.Storage.{storage, side_check, pond_check, heights_check, storage_check, storage_answer}
-use Rattle.rules.proofs.Laws.Checks.{require_met, then_none, then_pass, size_range_check}
+use Rattle.rules.specs.Storage.{storage, side_check, pond_check, heights_check}
+use Rattle.rules.proofs.Laws.Checks.{require_met, then_none, size_range_check}
 use Rattle.raster.specs.Promises.{many, counted, entries_held, entry_in_range}
 use Rattle.answers.specs.CountTold.{told}
 use Rattle.answers.specs.declared.CountTold.{CountTold}
@@ -72,15 +71,3 @@ module _ {columns rows : ℕ} {heights : List ℤ} (s : Sampled columns rows hei
       let counts = counted s.m s.n s.unit s.lattice g s.lent s.answered heights s.rules s.count s.is in
       let held = entries_held s.m s.n s.unit s.lattice g s.lent s.answered heights s.rules s.count s.is in
       then_none (counts_check columns rows) _ counts ∙ then_none (require room short) _ (require_met room short (le→leb (columns * rows) (length heights) (rw count_is held)))
-
-  pub sampled_check : (stage : ℤ) (side : ℕ) → storage_check columns rows heights stage side ≡ (side_check side then stage_check stage)
-  unfolding storage_check
-  sampled_check stage side =
-      ap (λ c. c then stage_check stage then heights_check (columns * rows) heights) (sampled_pond side)
-      ∙ ap (λ c. side_check side then stage_check stage then c) heights_unrefused
-      ∙ ap (λ c. side_check side then c) (then_pass (stage_check stage))
-
-  -- so that only the side and the stage can be
-  pub sampled_answer_lem : (stage : ℤ) (side : ℕ) → storage_answer columns rows heights stage side ≡ sampled_answer columns rows heights stage side
-  unfolding storage_answer
-  sampled_answer_lem stage side = ap (λ c. answer c (storage columns rows heights stage side)) (sampled_check stage side)

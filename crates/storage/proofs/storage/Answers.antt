@@ -11,7 +11,8 @@ use Rattle.rules.specs.Storage.{depths, litres, storage, pond_check, heights_che
 use Rattle.rules.proofs.Laws.Checks.{then_none, then_some, answer_none, answer_value, answer_refused, none_answer, some_answer}
 use Rattle.rules.proofs.Laws.Passed.{stage_passed}
 use Rattle.rules.proofs.Laws.Storage.{sum_most, pond_passed, heights_passed}
-use Rattle.storage.specs.Sampled.{Sampled, sampled_answer, sampled_answer_lem}
+use Rattle.storage.specs.Sampled.{Sampled, sampled_answer}
+use Rattle.storage.proofs.Sampled.{sampled_answer_lem}
 use Rattle.storage.proofs.storage.Goals as goal
 
 -- ---- the answer, by what was found

@@ -1,0 +1,3 @@
+-- What a storage can refuse of a raster as it is promised.
+pub mod Sampled
+pub mod Promises
