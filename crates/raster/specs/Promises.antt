@@ -70,10 +70,13 @@ module _ (m n U : ℕ) (l : List ℤ) (g : Nodes) (d : List ℤ) where
     unfolding raster_call
     passed = call_unrefused _ _ _ d (told r) after rules q is
 
+    all_counted : g.across * g.down ≡ q
+    unfolding raster_call
+    all_counted = call_value (raster_check m n U l g d) (g.across * g.down) _ d (told r) after rules q is
+
     -- as many as it was asked for
     pub many : g.across * g.down ≡ q
-    unfolding raster_call
-    many = call_value (raster_check m n U l g d) (g.across * g.down) _ d (told r) after rules q is
+    many = all_counted
 
     -- in at most 8,193 columns and rows
     pub counted : counts_check g.across g.down ≡ none
@@ -81,11 +84,11 @@ module _ (m n U : ℕ) (l : List ℤ) (g : Nodes) (d : List ℤ) where
 
     written : after ≡ over (tabulate q height_at) d
     unfolding raster_call
-    written = call_after (raster_check m n U l g d) _ _ d (told r) after rules q is ∙ ap (λ v. over (tabulate v height_at) d) many
+    written = call_after (raster_check m n U l g d) _ _ d (told r) after rules q is ∙ ap (λ v. over (tabulate v height_at) d) all_counted
 
     -- and the slice has a place for each
     pub room_lent : q ≤ length d
-    room_lent = rw (← many) (leb→le (g.across * g.down) (length d) (all_passed passed).room)
+    room_lent = rw (← all_counted) (leb→le (g.across * g.down) (length d) (all_passed passed).room)
 
     pub entries_held : q ≤ length after
     entries_held = rw (written, length_over (tabulate q height_at) d (rw (length_tabulate q height_at) room_lent)) room_lent
@@ -97,7 +100,7 @@ module _ (m n U : ℕ) (l : List ℤ) (g : Nodes) (d : List ℤ) where
 
     pub entry_in_range : (i : ℕ) → i < q → nat_abs (get_or after i (pos 0)) ≤ 4_000_000_000
     entry_in_range i h =
-        let p = height_passed m n U l (node_x g i) (node_y g i) (node_accepted passed i (rw many h)) in
+        let p = height_passed m n U l (node_x g i) (node_y g i) (node_accepted passed i (rw all_counted h)) in
         rw (entry_height i h) (height_within U m n (node_x g i) (node_y g i) p.0 (control m l) limit p.1)
 
 -- ---- the earlier default step
