@@ -37,7 +37,7 @@ module _ (m n U : ℕ) (l : List ℤ) (g : Nodes) where
       as_raster q is =
           let nodes-all = many m n U l g d t after raster q is in
           let room : count ≤ length d = rw nodes-all (room_lent m n U l g d t after raster q is) in
-          let fine = same_checks room ∙ call_unrefused (raster_check m n U l g d) count _ d (counted.told t) after raster q is in
+          let fine = raster_check_lem m n U l g stage d room (stage_passes stage staged) ∙ call_unrefused (raster_check m n U l g d) count _ d (counted.told t) after raster q is in
           let heights = any_of_same q _ _ (λ i h. ap (above stage) (entry_height m n U l g d t after raster q is i h)) in
           rules ∙ sym (none_answer _ fine (heights ∙ ap (λ q. any_of q (λ i. above stage (node_height m n U l g i))) (sym nodes-all)))
 
@@ -45,7 +45,7 @@ module _ (m n U : ℕ) (l : List ℤ) (g : Nodes) where
       pub refused_as_raster : count ≤ length d → (x : Refusal) → counted.told t ≡ refused x → told r ≡ refused x
       unfolding above_answer raster_call
       refused_as_raster room x is =
-          rules ∙ sym (some_answer _ (same_checks room ∙ call_refusal (raster_check m n U l g d) count _ d (counted.told t) after raster x is))
+          rules ∙ sym (some_answer _ (raster_check_lem m n U l g stage d room (stage_passes stage staged) ∙ call_refusal (raster_check m n U l g d) count _ d (counted.told t) after raster x is))
 
     -- an answer
     module _ (b : Bool) (is : told r ≡ accepted b) where

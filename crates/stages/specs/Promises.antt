@@ -13,7 +13,8 @@ use Rattle.rules.proofs.Laws.Checks.{require_refusal, then_refusal, then_none, a
 use Rattle.rules.proofs.Laws.Stage as law
 use Rattle.storage.specs.Told as stored
 use Rattle.storage.specs.Promises as storages
-use Rattle.storage.specs.Sampled.{Sampled, heights_unrefused, sampled_pond}
+use Rattle.storage.specs.Sampled.{Sampled}
+use Rattle.storage.proofs.Unrefused.{heights_unrefused, sampled_pond}
 use Rattle.storage.specs.declared.Stored.{Stored}
 use Rattle.stages.specs.Told.{told}
 use Rattle.stages.specs.declared.StageTold.{StageTold}

@@ -1,3 +1,4 @@
 -- What a storage can refuse of a raster as it is promised.
+pub mod Unrefused
 pub mod Sampled
 pub mod Promises

@@ -5,7 +5,8 @@ use Rattle.rules.specs.Answers.{◌then◌, answer}
 use Rattle.rules.specs.Calls.{stage_check}
 use Rattle.rules.specs.Storage.{storage, side_check, heights_check, storage_check, storage_answer}
 use Rattle.rules.proofs.Laws.Checks.{then_pass}
-use Rattle.storage.specs.Sampled.{Sampled, sampled_answer, heights_unrefused, sampled_pond}
+use Rattle.storage.specs.Sampled.{Sampled, sampled_answer}
+use Rattle.storage.proofs.Unrefused.{heights_unrefused, sampled_pond}
 
 module _ {columns rows : ℕ} {heights : List ℤ} (s : Sampled columns rows heights) where
   pub sampled_check : (stage : ℤ) (side : ℕ) → storage_check columns rows heights stage side ≡ (side_check side then stage_check stage)

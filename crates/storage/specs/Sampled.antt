@@ -1,12 +1,9 @@
 -- A raster as it is promised: what an accepted call of `raster` leaves, in the words of its contract; and what of it storage can then refuse.
-use Rattle.std.specs.Prelude.{◌≡◌, ℕ, ◌+◌, ◌*◌, List, length, ℤ, nat_le, refl}
-use Rattle.std.proofs.Common.{◌∙◌, le→leb}
+use Rattle.std.specs.Prelude.{◌≡◌, ℕ, ◌*◌, List, ℤ, refl}
 use Rattle.std.proofs.Math.Option.{none}
-use Rattle.rules.specs.Answers.{short, range, require, ◌then◌, Answer, accepted, answer, outcome, call}
-use Rattle.rules.specs.Calls.{Nodes, counts_check, nodes, raster_check, raster_call, stage_check}
-use Rattle.rules.specs.Storage.{storage, side_check, pond_check, heights_check}
-use Rattle.rules.proofs.Laws.Checks.{require_met, then_none, size_range_check}
-use Rattle.raster.specs.Promises.{many, counted, entries_held, entry_in_range}
+use Rattle.rules.specs.Answers.{◌then◌, Answer, accepted, answer, outcome, call}
+use Rattle.rules.specs.Calls.{nodes, raster_check, raster_call, stage_check}
+use Rattle.rules.specs.Storage.{storage, side_check}
 use Rattle.answers.specs.CountTold.{told}
 use Rattle.answers.specs.declared.CountTold.{CountTold}
 use Rattle.answers.specs.declared.CountTold.TheVariants.{Count}
@@ -48,26 +45,3 @@ sampled m n U l x0 y0 step columns rows d e = record {
 -- the answer of the two checks that are left of a storage, the side's and the stage's
 abbrev pub sampled_answer : ℕ → ℕ → List ℤ → ℤ → ℕ → Answer ℕ
 sampled_answer columns rows heights stage side = answer (side_check side then stage_check stage) (storage columns rows heights stage side)
-
-module _ {columns rows : ℕ} {heights : List ℤ} (s : Sampled columns rows heights) where
-  abbrev g : Nodes
-  g = nodes s.x0 s.y0 s.step columns rows
-
-  count_is : columns * rows ≡ s.count
-  count_is = many s.m s.n s.unit s.lattice g s.lent s.answered heights s.rules s.count s.is
-
-  -- no height is refused
-  pub heights_unrefused : heights_check (columns * rows) heights ≡ none
-  unfolding heights_check
-  heights_unrefused =
-      size_range_check (columns * rows) heights (λ i. range (i + 1))
-      (λ i l. entry_in_range s.m s.n s.unit s.lattice g s.lent s.answered heights s.rules s.count s.is i (rw (← count_is) l))
-
-  -- nor are the columns, the rows and the slice
-  pub sampled_pond : (side : ℕ) → pond_check columns rows heights side ≡ side_check side
-  unfolding pond_check
-  sampled_pond side =
-      let room = nat_le (columns * rows) (length heights) in
-      let counts = counted s.m s.n s.unit s.lattice g s.lent s.answered heights s.rules s.count s.is in
-      let held = entries_held s.m s.n s.unit s.lattice g s.lent s.answered heights s.rules s.count s.is in
-      then_none (counts_check columns rows) _ counts ∙ then_none (require room short) _ (require_met room short (le→leb (columns * rows) (length heights) (rw count_is held)))
