@@ -9,8 +9,8 @@ need_archive() {
     elif [[ ! -e $archive ]]; then
         echo "building $archive"
         mkdir -p target
-        (cd crates/curlewtable && rt lib) >target/lib.log 2>&1 || { tail -n 20 target/lib.log >&2; exit 1; }
+        (cd crates/curlewtable && rt lib --cpu x86-64) >target/lib.log 2>&1 || { tail -n 20 target/lib.log >&2; exit 1; }
     elif [[ -n $(find crates -path '*/src/*' -newer "$archive" -print -quit) ]]; then
-        echo "note: crates/ has changed since $archive was built; 'rt lib' in crates/curlewtable builds it again" >&2
+        echo "note: crates/ has changed since $archive was built; 'rt lib --cpu x86-64' in crates/curlewtable builds it again" >&2
     fi
 }
