@@ -1,3 +1,2 @@
 pub mod Cause
-pub mod CellsTold
-pub mod CountTold
+pub mod Told

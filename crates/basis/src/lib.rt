@@ -58,9 +58,7 @@ pub fn locate(x: usize, m: usize, e: u32) -> Spot
     requires { (0 < m) × (e ≤ 9) }
     ensures { Located result (2 ^ e) m x }
 {
-    let c = x >> e;
-    let last = m - 1;
-    let cell = if c < last { c } else { last };
+    let cell = (x >> e).min(m - 1);
     Spot {
         cell,
         offset: x - (cell << e),

@@ -9,50 +9,35 @@ ghost use Rattle.rules.specs.Laws.Passed.{Gridded};
 ghost use Rattle.answers.specs.Cause.{check};
 ghost use Rattle.checks.specs.Ready.{Tells, grid_check, stored_check};
 
-use answers::{Refusal, Verdict};
-use range::Found;
-
-// What checks tell of a unit U: the e of U = 2^e where they refuse nothing, or the first refusal.
-#[derive(Drop)]
-pub enum Readiness {
-    Of(u32),
-    Refused(Refusal),
-}
+use answers::Refusal;
+use grid::{Cells, Grid};
 
 // low ≤ v ≤ high
 pub fn within(low: usize, high: usize, v: usize) -> bool
     ensures { result ≡ grid.within low high v }
 {
-    if v < low {
-        return false;
-    }
-    if high < v {
-        return false;
-    }
-    true
+    low <= v && v <= high
 }
 
 // 1: cells a side from 1 to most
-pub fn cells(most: usize, m: usize, n: usize) -> Verdict
+pub fn cells(most: usize, m: usize, n: usize) -> Result<(), Refusal>
     ensures { check result ≡ cells_check most m n }
 {
     if !within(1, most, m) {
-        return Verdict::Refused(Refusal::Cells);
+        return Err(Refusal::Cells);
     }
     if !within(1, most, n) {
-        return Verdict::Refused(Refusal::Cells);
+        return Err(Refusal::Cells);
     }
-    Verdict::Fine
+    Ok(())
 }
 
-// 1 and 2: cells that heights can be read on, with "U = 16, 32, 64, 128, 256 or 512". e is cast last, so that the compiler makes one count of U's
+// 1 and 2: a grid that heights can be read on, with "U = 16, 32, 64, 128, 256 or 512". e is cast last, so that the compiler makes one count of U's
 // trailing zeros of the six arms.
-pub fn gridded(m: usize, n: usize, unit: usize) -> Readiness
-    ensures { Tells (grid_check m n unit) unit (Gridded m n) result }
+pub fn gridded(m: usize, n: usize, unit: usize) -> Result<Grid, Refusal>
+    ensures { Tells (grid_check m n unit) m n unit (Gridded m n) result }
 {
-    if let Verdict::Refused(r) = cells(512, m, n) {
-        return Readiness::Refused(r);
-    }
+    cells(512, m, n)?;
     let e = match unit {
         16 => 4usize,
         32 => 5,
@@ -61,30 +46,32 @@ pub fn gridded(m: usize, n: usize, unit: usize) -> Readiness
         256 => 8,
         512 => 9,
         _ => {
-            return Readiness::Refused(Refusal::Unit);
+            return Err(Refusal::Unit);
         }
     };
-    Readiness::Of(e as u32)
+    Ok(Grid {
+        cells: Cells { m, n },
+        e: e as u32,
+    })
 }
 
 // 6, over a lattice: the first control value out of range
-pub fn lattice(m: usize, n: usize, values: &[i64]) -> Verdict
-    requires { (m ≤ 512) × (n ≤ 512) × (controls m n ≤ length values.now) }
-    ensures { check result ≡ lattice_check m n values.now }
+pub fn lattice(cells: Cells, values: &[i64]) -> Result<(), Refusal>
+    requires { controls cells.m cells.n ≤ length values.now }
+    ensures { check result ≡ lattice_check cells.m cells.n values.now }
 {
-    match range::first_out(values, (m + 3) * (n + 3)) {
-        Found::At(i) => Verdict::Refused(Refusal::Range(i)),
-        Found::Nowhere => Verdict::Fine,
+    match range::first_out(values, cells.controls()) {
+        Some(i) => Err(Refusal::Range(i)),
+        None => Ok(()),
     }
 }
 
 // 4 and then 6, over a lattice that a caller lends
-pub fn stored(m: usize, n: usize, values: &[i64]) -> Verdict
-    requires { (m ≤ 512) × (n ≤ 512) }
-    ensures { check result ≡ stored_check m n values.now }
+pub fn stored(cells: Cells, values: &[i64]) -> Result<(), Refusal>
+    ensures { check result ≡ stored_check cells.m cells.n values.now }
 {
-    if values.len() < (m + 3) * (n + 3) {
-        return Verdict::Refused(Refusal::Short);
+    if values.len() < cells.controls() {
+        return Err(Refusal::Short);
     }
-    lattice(m, n, values)
+    lattice(cells, values)
 }

@@ -32,8 +32,7 @@ fn floor_over(v: i64, d: usize) -> i64
     requires { (nat_abs v ≤ 4_611_686_018_427_387_904) × (1 ≤ d) × (d ≤ 4_294_967_296) }
     ensures { result ≡ floor v d }
 {
-    let by = d as i64;
-    if v < 0 { (v - (by - 1)) / by } else { v / by }
+    v.div_euclid(d as i64)
 }
 
 // The lowest digit of v: 0 if it is even, else 1.
@@ -41,7 +40,7 @@ fn lowest(v: i64) -> i64
     requires { nat_abs v ≤ 2_000_000_000_000_000_000 }
     ensures { result ≡ pos (odd v) }
 {
-    v - 2 * (v >> 1)
+    v.rem_euclid(2)
 }
 
 // near(v / d), for any d: the floor of (2v + d) / 2d, or of (2v + d - 1) / 2d if the floor of v / d is even, so that an exact half stays at it.

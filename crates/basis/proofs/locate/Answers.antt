@@ -3,7 +3,6 @@ use Rattle.std.proofs.Common.{◌≡◌, ℕ, ◌-◌, ◌*◌, ◌%◌, ◌^◌
 use Rattle.rules.specs.Surface.{cell, offset}
 use Rattle.rules.proofs.Laws.Basis.{cell_offset}
 use Rattle.basis.proofs.locate.Goals as goal
-use Rattle.basis.proofs.locate.Goals.{then-c-last, else-c-last}
 
 -- what the code shifts back is the start of the cell, and nothing of it is lost
 start_is : (U m x : ℕ) → x < 2 ^ 64 → cell U m x * U % 2 ^ 64 ≡ cell U m x * U
@@ -15,5 +14,5 @@ returns c =
     let U = 2 ^ c.args.e in
     let m = c.args.m in
     let x = c.args.x in
-    let is : c.if-c-last.cell ≡ cell U m x = elim c.if-c-last.branch [ then-c-last w ↦ omega arith | else-c-last w ↦ omega arith ] in
+    let is : c.min-cell.result ≡ cell U m x = c.min-cell.ensures in
     record { cell_is = is; offset_is = ap (λ k. x - k) (ap (λ k. k * U % 2 ^ 64) is ∙ start_is U m x c.ranges.x.fits) }

@@ -1,16 +1,12 @@
--- Each answer is decided by the test that led to it.
+-- Each answer is decided by the tests that led to it.
 use Rattle.std.proofs.lemmas.Bool.{lt-leb, le-leb}
 use Rattle.rules.specs.Grid.{within}
 use Rattle.checks.proofs.within.Goals as goal
 
-pub returns-then-v-low : goal.returns-then-v-low
+pub returns-then-low-v : goal.returns-then-low-v
 unfolding within
-returns-then-v-low c = simp (lt-leb _ _ c.if-v-low.true)
+returns-then-low-v c = simp (le-leb _ _ c.if-low-v.true)
 
-pub returns-then-high-v : goal.returns-then-high-v
+pub returns-else-low-v : goal.returns-else-low-v
 unfolding within
-returns-then-high-v c = simp (le-leb _ _ c.if-v-low.false, lt-leb _ _ c.if-high-v.true)
-
-pub returns : goal.returns
-unfolding within
-returns c = simp (le-leb _ _ c.if-v-low.false, le-leb _ _ c.if-high-v.false)
+returns-else-low-v c = simp (lt-leb _ _ c.if-low-v.false)

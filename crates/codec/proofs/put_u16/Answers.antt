@@ -1,15 +1,11 @@
--- Two stores, one after the other, lay the two bytes of the number.
-use Rattle.std.proofs.Common.{◌≡◌, ℕ, ◌<◌, ◌/◌, ◌%◌, [], ◌∷◌, ap, add-one, arith}
-use Rattle.algebra.specs.Table.{laid_sets}
-use Rattle.rules.specs.Bytes.{bytes_of}
+use Rattle.std.proofs.Common.{length, ap, ◌∙◌}
+use Rattle.algebra.specs.Table.{laid}
+use Rattle.rules.proofs.Laws.Bytes.{length_bytes_of}
+use Rattle.codec.proofs.Bytes.{all_low_first, written}
 use Rattle.codec.proofs.put_u16.Goals as goal
-
--- the two bytes that are stored
-bytes : (v : ℕ) → v < 65_536 → bytes_of 2 v ≡ v % 256 ∷ v / 256 ∷ []
-unfolding bytes_of
-bytes v h = ap (λ b. v % 256 ∷ b ∷ []) (omega arith)
 
 pub returns : goal.returns
 returns c =
     let a = c.args in
-    rw (add-one a.at, bytes a.v (omega arith)) (laid_sets a.at (a.v % 256 ∷ a.v / 256 ∷ []) a.output.now (omega arith))
+    let bytes = c.copy_from_slice.ensures.after ∙ c.to_le_bytes.ensures ∙ all_low_first 2 a.v in
+    written a.at 2 _ a.output.now (ap length bytes ∙ length_bytes_of 2 a.v) c.requires ∙ ap (λ b. laid a.at b a.output.now) bytes

@@ -1,22 +1,18 @@
--- The numbers of four pairs of bytes make the number of eight bytes.
-use Rattle.std.proofs.Common.{◌≡◌, ℕ, ◌+◌, ◌*◌, List, ap, ◌∙◌, arith}
+-- The eight bytes, read as a number, and that as two's complement.
+use Rattle.std.proofs.Common.{◌≡◌, ℕ, ◌+◌, ◌-◌, ◌<◌, List, take, drop, get_or, ap, ◌∙◌, arith, get_or-take, get_or-drop}
 use Rattle.machine.specs.Tests.{plain}
-use Rattle.rules.specs.Bytes.{uncomplement, number_at, value_at}
-use Rattle.rules.specs.Laws.Bytes.{entries}
-use Rattle.rules.proofs.Laws.Bytes.{number_at_past, number_at_entries}
+use Rattle.rules.specs.Bytes.{uncomplement, value_at}
+use Rattle.codec.proofs.Bytes.{eight, read_bits}
 use Rattle.codec.proofs.value_at.Goals as goal
 
-eight : (file : List ℕ) (at a b d e : ℕ) → a ≡ number_at 2 file at → b ≡ number_at 2 file (at + 2) → d ≡ number_at 2 file (at + 4) → e ≡ number_at 2 file (at + 6)
-    → a + b * 65_536 + (d + e * 65_536) * 4_294_967_296 ≡ number_at 8 file at
-unfolding entries
-eight file at a b d e p q r s =
-    omega
-    (arith, number_at_entries 2 file at, number_at_past 2 file at 2, number_at_past 2 file at 4, number_at_past 2 file at 6, number_at_entries 8 file at)
+part : (file bytes : List ℕ) (at : ℕ) → bytes ≡ take (at + 8 - at) (drop at file) → (i : ℕ) → i < 8 → get_or bytes i 0 ≡ get_or file (at + i) 0
+part file bytes at e i l = rw e (grind (arith, get_or-take, get_or-drop))
 
 pub returns : goal.returns
 unfolding value_at
 returns c =
-    plain c.from_bits.result c.from_bits.type_inv
-    ∙ c.from_bits.ensures
-    ∙ ap (uncomplement 8)
-    (eight _ _ _ _ _ _ c.u16_at.ensures c.u16_at-2.ensures c.u16_at-3.ensures c.u16_at-4.ensures)
+    let a = c.args in
+    plain c.from_le_bytes.result c.from_le_bytes.type_inv
+    ∙ c.from_le_bytes.ensures
+    ∙ read_bits _
+    ∙ ap (uncomplement 8) (eight a.file.now _ a.at (part a.file.now _ a.at c.copy_from_slice.ensures.after))

@@ -11,20 +11,20 @@ use Rattle.range.proofs.all_shifted.Goals as goal
 abbrev sum : (z b : ℤ) → nat_abs z ≤ limit → nat_abs b ≤ limit → Number
 sum z b small little = number (plus (read tt (itself z limit small)) (itself b limit little))
 
-pub loop-i-init : goal.loop-i-init
-loop-i-init c = (omega arith, λ r. none_out_start _ (λ i. r))
+pub loop-z-init : goal.loop-z-init
+loop-z-init c = λ r. none_out_start _ (λ i. r)
 
-pub loop-i-preserved : goal.loop-i-preserved
-loop-i-preserved c =
-    let l = c.loop-i in
+pub loop-z-preserved : goal.loop-z-preserved
+loop-z-preserved c =
+    let l = c.loop-z in
     let values = c.args.values.now in
     let b = to_z w64 (of_z w64 c.args.b) in
-    let turn = sum (get_or values l.i (pos 0)) b (c.requires.0 l.i c.loop-i-test.true) (rw (plain c.args.b c.ranges.b.sfits) c.requires.1) in
-    let test = c.range_bits-bits.ensures ∙ ap in_range ((read tt turn.held).is ∙ sym (shifted_at b values l.i c.loop-i-test.true)) in
-    (omega (arith, c.loop-i-test.true), scan_more l.i l.bits _ _ l.invariant.1 test)
+    let turn = sum (get_or values l.z-index (pos 0)) b (c.requires.0 l.z-index c.loop-z-test.true) (rw (plain c.args.b c.ranges.b.sfits) c.requires.1) in
+    let test = c.range_bits-bits.ensures ∙ ap in_range ((read tt turn.held).is ∙ sym (shifted_at b values l.z-index c.loop-z-test.true)) in
+    scan_more l.z-index l.bits _ _ l.invariant test
 
 pub returns : goal.returns
 returns c =
-    let l = c.loop-i in
-    let last : length c.args.values.now ≡ l.i = omega arith in
-    rw (last, ← plain c.args.b c.ranges.b.sfits) l.invariant.1
+    let l = c.loop-z in
+    let last : length c.args.values.now ≡ l.z-index = omega arith in
+    rw (last, ← plain c.args.b c.ranges.b.sfits) l.invariant

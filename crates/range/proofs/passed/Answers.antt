@@ -1,20 +1,21 @@
-use Rattle.std.proofs.Common.{arith}
-use Rattle.rules.proofs.Laws.Checks.{none_out_start, none_out_less, some_out_more}
-use Rattle.range.specs.Scan.{all_none_out, all_some_out}
+use Rattle.std.proofs.Common.{◌+◌, arith}
+use Rattle.std.proofs.lemmas.Grind.{div_ceil_times}
+use Rattle.rules.proofs.Laws.Checks.{none_out_start, none_out_less}
+use Rattle.range.specs.Scan.{all_none_out}
+use Rattle.range.proofs.Blocks.{none_out}
 use Rattle.range.proofs.passed.Goals as goal
 
-pub loop-i-init : goal.loop-i-init
-loop-i-init c = (omega arith, none_out_start _)
-
-pub all_in_range-requires-clause-none_before : goal.all_in_range-requires-clause-none_before
-all_in_range-requires-clause-none_before c = none_out_less _ _ _ c.block_start-start.ensures.0 c.loop-i.invariant.1
+pub loop-block-init : goal.loop-block-init
+loop-block-init c = λ k h n. none_out_less _ 0 _ h (none_out_start _)
 
 pub returns-then-not-all_in_range-clause-none_before : goal.returns-then-not-all_in_range-clause-none_before
-returns-then-not-all_in_range-clause-none_before c = none_out_less _ _ _ c.block_start-start.ensures.0 c.loop-i.invariant.1
+returns-then-not-all_in_range-clause-none_before c = c.loop-block.invariant _ (omega arith) (omega arith)
 
-pub returns-then-not-all_in_range-clause-some_behind : goal.returns-then-not-all_in_range-clause-some_behind
-returns-then-not-all_in_range-clause-some_behind c =
-    λ h. some_out_more _ _ _ c.block_start-start.ensures.1.1 (all_some_out _ _ _ c.all_in_range.ensures c.if-not-all_in_range.true)
+pub loop-block-preserved : goal.loop-block-preserved
+loop-block-preserved c = λ k h n.
+    let before = c.loop-block.invariant c.min-start.result (omega arith) (omega arith) in
+    let there = all_none_out _ _ _ c.all_in_range.ensures c.if-not-all_in_range.false in
+    none_out_less k (c.min-start.result + 64) _ (omega arith) (none_out _ _ _ (omega arith) (omega arith) before there)
 
-pub loop-i-preserved : goal.loop-i-preserved
-loop-i-preserved c = (omega arith, all_none_out _ _ _ c.all_in_range.ensures c.if-not-all_in_range.false)
+pub returns-clause-none_before : goal.returns-clause-none_before
+returns-clause-none_before c = c.loop-block.invariant _ (omega (arith, div_ceil_times c.args.n 64 (omega arith))) (omega arith)

@@ -1,10 +1,7 @@
--- The loop's invariant: no value before i is out of range.
-use Rattle.std.proofs.Common.{◌-◌, ◌≤◌}
+-- The loop's invariant: no value of the blocks before the loop's is out of range.
+use Rattle.std.proofs.Common.{ℕ, ◌*◌, ◌≤◌}
 use Rattle.rules.specs.Laws.Checks.{NoneOut}
 use Rattle.range.proofs.passed.Given as goal
 
-abbrev pub invariant-loop-i : goal.invariant-loop-i
-invariant-loop-i l = (l.i ≤ l.n) × NoneOut l.i l.values
-
-abbrev pub decreases-loop-i : goal.decreases-loop-i
-decreases-loop-i l = l.n - l.i
+abbrev pub invariant-loop-block : goal.invariant-loop-block
+invariant-loop-block l = (k : ℕ) → k ≤ 64 * l.block → k ≤ l.n → NoneOut k l.values
