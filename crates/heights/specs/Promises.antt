@@ -1,6 +1,6 @@
 -- What a height promises beyond its equation with the rules: accepted, it is in range, and within one micrometre of the exact surface; and of the negated
 -- lattice it is the negative, or the same refusal.
-use Rattle.std.specs.Prelude.{◌≡◌, ◌&&◌, List, ℕ, ◌*◌, ◌≤◌, leb, ℤ, pos, neg_ℤ, nat_abs, ◌-ℤ◌, ◌*ℤ◌, length}
+use Rattle.std.specs.Prelude.{◌≡◌, ◌&&◌, List, ℕ, ◌*◌, ◌≤◌, leb, ℤ, pos, neg_ℤ, nat_abs, ◌-ℤ◌, ◌*ℤ◌, length, Result}
 use Rattle.std.proofs.Common.{sym, ap, ◌∙◌, leb→le}
 use Rattle.std.proofs.Math.Option.{none}
 use Rattle.std.proofs.Math.Facts.{and_yes}
@@ -14,8 +14,8 @@ use Rattle.rules.proofs.Laws.Surface.{control_within, height_within, height_dist
 use Rattle.rules.proofs.Laws.Passed.{cells_passed, unit_positive, lattice_passed}
 use Rattle.rules.specs.Laws.Negation.{negated, with_value}
 use Rattle.rules.proofs.Laws.Negation.{height_call}
-use Rattle.heights.specs.Reading.{told}
-use Rattle.heights.specs.declared.Reading.{Reading}
+use Rattle.answers.specs.Told.{told}
+use Rattle.answers.specs.declared.Refusal.{Refusal}
 
 -- what the checks of a height leave: a position on the lattice, whose control values are in range
 pub height_passed : (m n U : ℕ) (l : List ℤ) (x y : ℕ) → height_check m n U l x y ≡ none → Inside U m n x y × Bounded m n (control m l) limit
@@ -31,7 +31,7 @@ height_passed m n U l x y h =
 
 -- ---- the promises
 
-module _ (m n U : ℕ) (l : List ℤ) (x y : ℕ) (r : Reading) (z : ℤ) (rules : told r ≡ height_answer m n U l x y) (is : told r ≡ accepted z) where
+module _ (m n U : ℕ) (l : List ℤ) (x y : ℕ) (r : Result ℤ Refusal) (z : ℤ) (rules : told r ≡ height_answer m n U l x y) (is : told r ≡ accepted z) where
   passed : Inside U m n x y × Bounded m n (control m l) limit
   unfolding height_answer
   passed = height_passed m n U l x y (answer_none (height_check m n U l x y) (height U m n (control m l) x y) z (sym rules ∙ is))
@@ -47,6 +47,6 @@ module _ (m n U : ℕ) (l : List ℤ) (x y : ℕ) (r : Reading) (z : ℤ) (rules
   pub near_surface : nat_abs (pos 2 *ℤ (pos (full U) *ℤ z -ℤ surface U m n (control m l) x y)) ≤ 2 * full U
   near_surface = rw (← height_is) (height_distance U m n x y passed.0 (control m l))
 
-pub negated_ground : (m n U : ℕ) (l : List ℤ) (x y : ℕ) (r r' : Reading) → told r ≡ height_answer m n U l x y → told r' ≡ height_answer m n U (negated l) x y
+pub negated_ground : (m n U : ℕ) (l : List ℤ) (x y : ℕ) (r r' : Result ℤ Refusal) → told r ≡ height_answer m n U l x y → told r' ≡ height_answer m n U (negated l) x y
     → told r' ≡ with_value neg_ℤ (told r)
 negated_ground m n U l x y r r' rules rules' = rules' ∙ height_call m n l U x y ∙ ap (with_value neg_ℤ) (sym rules)

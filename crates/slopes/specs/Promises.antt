@@ -1,6 +1,6 @@
 -- What slopes promise beyond their equation with the rules: accepted, along each axis they are within 750/U + 1/2 nanometres of the exact slope, and 0 on
 -- level ground; and of the negated lattice they are the negatives, or the same refusal.
-use Rattle.std.specs.Prelude.{◌≡◌, List, ℕ, ◌+◌, ◌*◌, ◌<◌, ℤ, pos, get_or}
+use Rattle.std.specs.Prelude.{◌≡◌, List, ℕ, ◌+◌, ◌*◌, ◌<◌, ℤ, pos, get_or, Result}
 use Rattle.std.proofs.Common.{sym, ap, subst, ◌∙◌}
 use Rattle.rules.specs.Grid.{controls, control}
 use Rattle.rules.specs.Slope.{exact_slope_x, slope_x, exact_slope_y, slope_y, SlopeClose}
@@ -13,10 +13,12 @@ use Rattle.rules.proofs.Laws.Slope.{slope_x_distance, slope_y_distance, level_sl
 use Rattle.rules.specs.Laws.Negation.{negated, with_value, opposite_slopes}
 use Rattle.rules.proofs.Laws.Negation.{slope_call}
 use Rattle.heights.specs.Promises.{height_passed}
-use Rattle.slopes.specs.Sloping.{told}
-use Rattle.slopes.specs.declared.Sloped.{Sloped}
+use Rattle.answers.specs.Told.{told_as}
+use Rattle.answers.specs.declared.Refusal.{Refusal}
+use Rattle.slopes.specs.Sloping.{slopes_of}
+use Rattle.slopes.specs.declared.Slopes as code
 
-module _ (m n U : ℕ) (l : List ℤ) (x y : ℕ) (r : Sloped) (s : Slopes) (rules : told r ≡ slope_answer m n U l x y) (is : told r ≡ accepted s) where
+module _ (m n U : ℕ) (l : List ℤ) (x y : ℕ) (r : Result code.Slopes Refusal) (s : Slopes) (rules : told_as slopes_of r ≡ slope_answer m n U l x y) (is : told_as slopes_of r ≡ accepted s) where
   abbrev both : Slopes
   both = record { along_x = slope_x U m n (control m l) x y; along_y = slope_y U m n (control m l) x y }
 
@@ -47,6 +49,6 @@ module _ (m n U : ℕ) (l : List ℤ) (x y : ℕ) (r : Sloped) (s : Slopes) (rul
       sym (ap (λ (b : Slopes). b.along_y) slopes_are) ∙ level_slope_y U m n x y on (control m l) c grounded,
     )
 
-pub negated_ground : (m n U : ℕ) (l : List ℤ) (x y : ℕ) (r r' : Sloped) → told r ≡ slope_answer m n U l x y → told r' ≡ slope_answer m n U (negated l) x y
-    → told r' ≡ with_value opposite_slopes (told r)
+pub negated_ground : (m n U : ℕ) (l : List ℤ) (x y : ℕ) (r r' : Result code.Slopes Refusal) → told_as slopes_of r ≡ slope_answer m n U l x y → told_as slopes_of r' ≡ slope_answer m n U (negated l) x y
+    → told_as slopes_of r' ≡ with_value opposite_slopes (told_as slopes_of r)
 negated_ground m n U l x y r r' rules rules' = rules' ∙ slope_call m n l U x y ∙ ap (with_value opposite_slopes) (sym rules)

@@ -3,18 +3,14 @@ use Rattle.std.specs.Prelude.{List, ℕ, ◌+◌, ◌*◌, ◌≤◌, ◌<◌, �
 use Rattle.rules.specs.Rounding.{near}
 use Rattle.rules.specs.Surface.{weighted}
 use Rattle.rules.specs.Slope.{slope_numerator, slope_denominator}
-use Rattle.rules.specs.Answers as rule
 use Rattle.rules.specs.Calls as calls
-use Rattle.answers.specs.Cause.{cause}
 use Rattle.basis.specs.Weighing.{Holds, numerators, weight_size, Weighable, line_height}
 use Rattle.basis.specs.declared.Basis.{Basis}
-use Rattle.slopes.specs.declared.Sloped.{Sloped}
-use Rattle.slopes.specs.declared.Sloped.TheVariants.{Slopes, Refused}
+use Rattle.slopes.specs.declared.Slopes.{Slopes}
 
--- the rules' answer for each case
-abbrev pub told : Sloped → rule.Answer calls.Slopes
-told (Slopes s) = rule.accepted (record { along_x = s.along_x; along_y = s.along_y })
-told (Refused r) = rule.refused (cause r)
+-- the rules' slopes for the code's
+abbrev pub slopes_of : Slopes → calls.Slopes
+slopes_of s = record { along_x = s.along_x; along_y = s.along_y }
 
 -- 1,000 times a slope numerator
 abbrev pub thousandfold : ℤ → ℤ → ℕ → ℤ

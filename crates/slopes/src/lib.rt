@@ -6,23 +6,18 @@ ghost use Rattle.rules.specs.Grid.{control};
 ghost use Rattle.rules.specs.Slope as rule;
 ghost use Rattle.rules.specs.Calls.{slope_answer};
 ghost use Rattle.basis.specs.Weighing.{Readable};
-ghost use Rattle.slopes.specs.Sloping.{told, WeighsSlope, Slopable, line_slope};
+ghost use Rattle.answers.specs.Told.{told_as};
+ghost use Rattle.slopes.specs.Sloping.{slopes_of, WeighsSlope, Slopable, line_slope};
 
 use answers::Refusal;
 use basis::Basis;
-use checks::Readiness;
+use grid::Grid;
 
 // Both slopes at a position, in nanometres per position.
 #[derive(Drop)]
 pub struct Slopes {
     pub along_x: i64,
     pub along_y: i64,
-}
-
-#[derive(Drop)]
-pub enum Sloped {
-    Slopes(Slopes),
-    Refused(Refusal),
 }
 
 // 1,000 times "-(U-a)², 3a²-4aU, -3a²+2aU+U², a²"; the third is what the others leave of 0. The thousand stands here, since `weighed` takes it along: their sizes
@@ -66,19 +61,20 @@ fn axis_slope(
 }
 
 // Both slopes at a position of a lattice that is known to be long enough and in range. It scans nothing.
-fn slopes_within(m: usize, n: usize, e: u32, lattice: &[i64], x: usize, y: usize) -> Slopes
-    requires { Readable m n e lattice.now x y }
-    ensures x_slope { result.along_x ≡ rule.slope_x (2 ^ e) m n (control m lattice.now) x y }
-    ensures y_slope { result.along_y ≡ rule.slope_y (2 ^ e) m n (control m lattice.now) x y }
+fn slopes_within(grid: Grid, lattice: &[i64], x: usize, y: usize) -> Slopes
+    requires { Readable grid.cells.m grid.cells.n grid.e lattice.now x y }
+    ensures x_slope { result.along_x ≡ rule.slope_x (2 ^ grid.e) grid.cells.m grid.cells.n (control grid.cells.m lattice.now) x y }
+    ensures y_slope { result.along_y ≡ rule.slope_y (2 ^ grid.e) grid.cells.m grid.cells.n (control grid.cells.m lattice.now) x y }
 {
-    let across = basis::locate(x, m, e);
-    let up = basis::locate(y, n, e);
-    let unit = 1 << e;
+    let e = grid.e;
+    let across = basis::locate(x, grid.cells.m, e);
+    let up = basis::locate(y, grid.cells.n, e);
+    let unit = grid.unit();
     let bx = basis::basis_of(unit, across.offset);
     let by = basis::basis_of(unit, up.offset);
     let sx = slope_basis(unit, across.offset);
     let sy = slope_basis(unit, up.offset);
-    let w = m + 3;
+    let w = grid.cells.width();
     let q = up.cell * w + across.cell;
     Slopes {
         along_x: axis_slope(lattice, q, 1, w, by, sx, e),
@@ -87,11 +83,16 @@ fn slopes_within(m: usize, n: usize, e: u32, lattice: &[i64], x: usize, y: usize
 }
 
 // Both slopes, behind the checks of a height.
-pub fn slope(m: usize, n: usize, unit: usize, lattice: &[i64], x: usize, y: usize) -> Sloped
-    ensures { told result ≡ slope_answer m n unit lattice.now x y }
+pub fn slope(
+    m: usize,
+    n: usize,
+    unit: usize,
+    lattice: &[i64],
+    x: usize,
+    y: usize,
+) -> Result<Slopes, Refusal>
+    ensures { told_as slopes_of result ≡ slope_answer m n unit lattice.now x y }
 {
-    match heights::readable(m, n, unit, lattice, x, y) {
-        Readiness::Of(e) => Sloped::Slopes(slopes_within(m, n, e, lattice, x, y)),
-        Readiness::Refused(r) => Sloped::Refused(r),
-    }
+    let grid = heights::readable(m, n, unit, lattice, x, y)?;
+    Ok(slopes_within(grid, lattice, x, y))
 }

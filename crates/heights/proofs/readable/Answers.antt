@@ -1,5 +1,5 @@
 -- Each refusal is the first check that fails, and behind the last check the lattice can be read.
-use Rattle.std.proofs.Common.{◌≡◌, ℕ, ◌*◌, ◌^◌, ◌≤◌, ◌<◌, ◌&&◌, List, ℤ, sym, ap, ◌∙◌, arith}
+use Rattle.std.proofs.Common.{◌≡◌, ℕ, ◌*◌, ◌≤◌, ◌<◌, ◌&&◌, List, ℤ, refl, sym, ◌∙◌, arith}
 use Rattle.std.proofs.Math.Option.{none, some}
 use borrow.Author.Tests.{lt-leb, le-leb}
 use Rattle.rules.specs.Answers.{Refusal, position, require, ◌then◌}
@@ -8,11 +8,12 @@ use Rattle.rules.specs.Calls.{height_check}
 use Rattle.rules.proofs.Laws.Checks.{then_none, then_some, then_assoc}
 use Rattle.rules.specs.Laws.Passed.{Gridded}
 use Rattle.rules.proofs.Laws.Passed.{last_fits}
-use Rattle.answers.specs.Cause.{check}
-use Rattle.checks.specs.Ready.{grid_check, stored_check}
-use Rattle.checks.specs.Passed.{stored_passed, exponent_check, refusal_check, tells_exponent, tells_refusal}
+use Rattle.std.proofs.lemmas.Result.{err_from_is_err_and}
+use Rattle.grid.specs.declared.Grid.{Grid}
+use Rattle.checks.specs.Ready.{grid_check, stored_check, Behind}
+use Rattle.checks.specs.Passed.{stored_passed, grid_none, grid_refused, tells_grid, tells_refusal}
 use Rattle.heights.proofs.readable.Goals as goal
-use Rattle.heights.proofs.readable.Goals.{In_default-stored}
+use Rattle.heights.proofs.readable.Goals.{In_ok-stored}
 
 -- ---- the refusal at each check
 
@@ -46,51 +47,60 @@ module _ (m n U : ℕ) (l : List ℤ) (x y : ℕ) where
 
 -- ---- what is known behind each check
 
-module _ (c : In_default-stored) where
-  grid_none : grid_check c.args.m c.args.n c.args.unit ≡ none
-  grid_none = exponent_check c.gridded-grid.ensures c.in-Of.is
+-- the check of a lattice on the grid's cells is that of the caller's
+same_check : {m n U : ℕ} {P : ℕ → Type 0} {g : Grid} → (l : List ℤ) → Behind m n U P g → stored_check m n l ≡ stored_check g.cells.m g.cells.n l
+same_check l b = rw (b.m_is, b.n_is) refl
 
-  behind : (c.args.unit ≡ 2 ^ c.in-Of.field-0) × Gridded c.args.m c.args.n c.in-Of.field-0
-  behind = c.gridded-grid.ensures.behind _ c.in-Of.is
+module _ (c : In_ok-stored) where
+  behind : Behind c.args.m c.args.n c.args.unit (Gridded c.args.m c.args.n) c.in_ok-grid.grid
+  behind = c.gridded.ensures.behind _ c.in_ok-grid.was
 
-  stored_none : stored_check c.args.m c.args.n c.args.lattice.now ≡ none
-  stored_none = sym c.stored.ensures ∙ ap check c.in_default-stored.is
+  grid_passed : grid_check c.args.m c.args.n c.args.unit ≡ none
+  grid_passed = grid_none c.gridded.ensures c.in_ok-grid.was
+
+  stored_passes : stored_check c.args.m c.args.n c.args.lattice.now ≡ none
+  stored_passes = same_check _ behind ∙ sym c.in_ok-stored.ensures
 
 -- ---- what the steps ask
 
-pub stored-requires : goal.stored-requires
-stored-requires c = let g = (c.gridded-grid.ensures.behind _ c.in-Of.is).1 in (g.m_most, g.n_most)
-
 pub overflow_mul-unit : goal.overflow_mul-unit
-overflow_mul-unit c = let b = behind ((goal.at.overflow_mul-unit c).In_default-stored) in omega (arith, last_fits _ _ b.0 b.1.e_most b.1.m_most)
+overflow_mul-unit c = let b = behind ((goal.at.overflow_mul-unit c).In_ok-stored) in omega (arith, last_fits _ _ b.unit_is b.holds.e_most b.holds.m_most)
 
 pub overflow_mul-unit-2 : goal.overflow_mul-unit-2
-overflow_mul-unit-2 c = let b = behind ((goal.at.overflow_mul-unit-2 c).In_default-stored) in omega (arith, last_fits _ _ b.0 b.1.e_most b.1.n_most)
+overflow_mul-unit-2 c = let b = behind ((goal.at.overflow_mul-unit-2 c).In_ok-stored) in omega (arith, last_fits _ _ b.unit_is b.holds.e_most b.holds.n_most)
 
 -- ---- what it returns
 
-pub returns-in_default : goal.returns-in_default
-returns-in_default c = let i = c.in_default.is in rw i (tells_refusal (by_grid _ _ _ _ _ _ (refusal_check c.gridded-grid.ensures i)))
+pub returns-in_err-grid : goal.returns-in_err-grid
+returns-in_err-grid c =
+    let p = err_from_is_err_and c.from_residual.result c.from_residual.ensures.1 in
+    rw (p.1, p.2) (tells_refusal (by_grid _ _ _ _ _ _ (grid_refused c.in_err-grid.ensures refl)))
 
-pub returns-in-Refused : goal.returns-in-Refused
-returns-in-Refused c =
-    tells_refusal (by_stored _ _ _ _ _ _ (exponent_check c.gridded-grid.ensures c.in-Of.is) (sym c.stored.ensures ∙ ap check c.in-Refused.is))
+pub returns-in_err-stored : goal.returns-in_err-stored
+returns-in_err-stored c =
+    let b = c.gridded.ensures.behind _ c.in_ok-grid.was in
+    let p = err_from_is_err_and c.from_residual-in_err-stored.result c.from_residual-in_err-stored.ensures.1 in
+    rw (p.1, p.2) (tells_refusal (by_stored _ _ _ _ _ _ (grid_none c.gridded.ensures c.in_ok-grid.was) (same_check _ b ∙ sym c.in_err-stored.ensures)))
 
 pub returns-then-unit-m : goal.returns-then-unit-m
 returns-then-unit-m c =
-    let p = (goal.at.returns-then-unit-m c).In_default-stored in
-    tells_refusal (by_x _ _ _ _ _ _ (grid_none p) (stored_none p) c.if-unit-m.true)
+    let p = (goal.at.returns-then-unit-m c).In_ok-stored in
+    tells_refusal (by_x _ _ _ _ _ _ (grid_passed p) (stored_passes p) c.if-unit-m.true)
 
 pub returns-then-unit-n : goal.returns-then-unit-n
 returns-then-unit-n c =
-    let p = (goal.at.returns-then-unit-n c).In_default-stored in
-    tells_refusal (by_y _ _ _ _ _ _ (grid_none p) (stored_none p) c.if-unit-m.false c.if-unit-n.true)
+    let p = (goal.at.returns-then-unit-n c).In_ok-stored in
+    tells_refusal (by_y _ _ _ _ _ _ (grid_passed p) (stored_passes p) c.if-unit-m.false c.if-unit-n.true)
 
 pub returns : goal.returns
 returns c =
-    let p = (goal.at.returns c).In_default-stored in
+    let p = (goal.at.returns c).In_ok-stored in
     let b = behind p in
-    let s = stored_passed _ _ _ (stored_none p) in
-    rw c.in-Of.is
-    (tells_exponent (by_none _ _ _ _ _ _ (grid_none p) (stored_none p) c.if-unit-m.false c.if-unit-n.false) b.0
-    (record { grounded = record { grid = b.1; long = s.0; ranged = s.1 }; x_inside = rw b.0 at c.if-unit-m.false; y_inside = rw b.0 at c.if-unit-n.false }))
+    let s = stored_passed _ _ _ (stored_passes p) in
+    tells_grid (by_none _ _ _ _ _ _ (grid_passed p) (stored_passes p) c.if-unit-m.false c.if-unit-n.false)
+    (record {
+      m_is = b.m_is;
+      n_is = b.n_is;
+      unit_is = b.unit_is;
+      holds = record { grounded = record { grid = b.holds; long = s.0; ranged = s.1 }; x_inside = rw b.unit_is at c.if-unit-m.false; y_inside = rw b.unit_is at c.if-unit-n.false };
+    })
