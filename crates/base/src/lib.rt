@@ -8,16 +8,9 @@ ghost use Rattle.rules.specs.Grid.{limit};
 ghost use Rattle.rules.specs.Fit as rule;
 ghost use Rattle.rules.specs.Laws.Checks.{AllInRange};
 ghost use Rattle.answers.specs.Cause.{check};
-ghost use Rattle.base.specs.Told.{told};
+ghost use Rattle.answers.specs.Told.{told};
 
-use answers::{Refusal, Verdict};
-
-// What heights tell of their base: it, or the point whose difference from it is refused.
-#[derive(Drop)]
-pub enum BaseTold {
-    Base(i64),
-    Refused(Refusal),
-}
+use answers::Refusal;
 
 // near of the mean of p heights, 0 of none
 fn near_mean(sum: i64, p: usize) -> i64
@@ -31,33 +24,28 @@ fn near_mean(sum: i64, p: usize) -> i64
 }
 
 // 15, height by height.
-fn first_far(zs: &[i64], base: i64) -> Verdict
+fn first_far(zs: &[i64], base: i64) -> Result<(), Refusal>
     requires { AllInRange (length zs.now) zs.now × (base ≡ rule.base zs.now) }
     ensures { check result ≡ rule.difference_check zs.now }
 {
-    let mut i = 0;
-    while i < zs.len() {
-        if !range::in_range(zs[i] - base) {
-            return Verdict::Refused(Refusal::Difference(i));
+    for (i, z) in zs.iter().enumerate() {
+        if !range::in_range(*z - base) {
+            return Err(Refusal::Difference(i));
         }
-        i += 1;
     }
-    Verdict::Fine
+    Ok(())
 }
 
 // The base of heights with this sum, in one pass that tests none by itself; only where it finds a difference out of range is there another, for the first.
-pub fn settle(zs: &[i64], sum: i64) -> BaseTold
+pub fn settle(zs: &[i64], sum: i64) -> Result<i64, Refusal>
     requires { (length zs.now ≤ 65_535) × AllInRange (length zs.now) zs.now × (sum ≡ rule.total (length zs.now) zs.now) }
     ensures { told result ≡ answer (rule.difference_check zs.now) (rule.base zs.now) }
 {
     let base = near_mean(sum, zs.len());
-    if range::all_shifted(zs, 0 - base) {
-        return BaseTold::Base(base);
+    if !range::all_shifted(zs, 0 - base) {
+        first_far(zs, base)?;
     }
-    match first_far(zs, base) {
-        Verdict::Fine => BaseTold::Base(base),
-        Verdict::Refused(r) => BaseTold::Refused(r),
-    }
+    Ok(base)
 }
 
 // b added to each of the values in range, at the start of to.
@@ -65,9 +53,7 @@ pub fn shift(values: &[i64], b: i64, to: &mut [i64])
     requires { (length values.now ≤ length to.old) × AllInRange (length values.now) values.now × (nat_abs b ≤ limit) }
     ensures { to.new ≡ over (rule.shifted b values.now) to.old }
 {
-    let mut i = 0;
-    while i < values.len() {
-        to[i] = values[i] + b;
-        i += 1;
+    for (i, value) in values.iter().enumerate() {
+        to[i] = *value + b;
     }
 }

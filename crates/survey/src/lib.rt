@@ -1,42 +1,35 @@
-// The checks of a survey as a whole, which the fit and the point writer share: cell counts, levels and lists.
+// A survey as a whole: the shape of its fit and its points, and the checks of both, which the fit and the point writer share: cell counts, levels and
+// lists.
 #![tactic(auto)]
 
-ghost use Rattle.std.specs.Prelude.{◌≡◌};
-ghost use Rattle.rules.specs.Fit.{shape, survey};
-ghost use Rattle.rules.specs.Calls.{survey_check};
-ghost use Rattle.answers.specs.Cause.{check};
+ghost use Rattle.std.specs.Prelude.{◌≡◌, ◌≤◌, length};
 
-use answers::{Refusal, Verdict};
+mod headed;
 
-// 1, 2 and 3: the cell counts, the levels and the lists
-pub fn head(
-    m0: usize,
-    n0: usize,
-    h: usize,
-    xs: &[u16],
-    ys: &[u16],
-    zs: &[i64],
-    qs: &[u8],
-) -> Verdict
-    ensures { check result ≡ survey_check (shape m0 n0 h) (survey xs.now ys.now zs.now qs.now) }
-{
-    if let Verdict::Refused(r) = checks::cells(16, m0, n0) {
-        return Verdict::Refused(r);
+pub use headed::head;
+
+// The coarsest cells, m0 by n0, and levels 0 to h.
+#[derive(Clone, Copy)]
+pub struct Shape {
+    pub m0: usize,
+    pub n0: usize,
+    pub h: usize,
+}
+
+// As many positions along x, positions along y, heights and confidences, and not too many.
+#[derive(Clone, Copy)]
+pub struct Points<'a> {
+    pub xs: &'a [u16],
+    pub ys: &'a [u16],
+    pub zs: &'a [i64],
+    pub qs: &'a [u8],
+    ghost as_many: { (length ys.now ≡ length xs.now) × (length zs.now ≡ length xs.now) × (length qs.now ≡ length xs.now) × (length xs.now ≤ 65_535) },
+}
+
+impl Points<'_> {
+    pub fn len(&self) -> usize
+        ensures { result ≡ length self.now.xs.now }
+    {
+        self.xs.len()
     }
-    if 5 < h {
-        return Verdict::Refused(Refusal::Levels);
-    }
-    if xs.len() != ys.len() {
-        return Verdict::Refused(Refusal::Lists);
-    }
-    if xs.len() != zs.len() {
-        return Verdict::Refused(Refusal::Lists);
-    }
-    if xs.len() != qs.len() {
-        return Verdict::Refused(Refusal::Lists);
-    }
-    if 65_535 < xs.len() {
-        return Verdict::Refused(Refusal::Lists);
-    }
-    Verdict::Fine
 }

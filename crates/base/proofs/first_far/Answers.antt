@@ -24,14 +24,14 @@ module _ (zs : List ℤ) (b : ℤ) (i : ℕ) (small : AllInRange (length zs) zs)
 -- ---- what it finds
 
 pub loop-i-init : goal.loop-i-init
-loop-i-init c = (omega arith, none_out_start _)
+loop-i-init c = none_out_start _
 
 pub loop-i-preserved : goal.loop-i-preserved
 loop-i-preserved c =
     let zs = c.args.zs.now in
     let l = c.loop-i in
     let known = tested zs c.args.base l.i c.requires.0 c.requires.1 c.loop-i-test.true in
-    (omega arith, none_out_more l.i (differences zs) l.invariant.1 (subst T (c.if-not-in_range.ensures ∙ ap in_range known) tt))
+    none_out_more l.i (differences zs) l.invariant (subst T (c.if-not-in_range.ensures ∙ ap in_range known) tt)
 
 pub returns-then-not-in_range : goal.returns-then-not-in_range
 unfolding difference_check
@@ -39,15 +39,15 @@ returns-then-not-in_range c =
     let zs = c.args.zs.now in
     let l = c.loop-i in
     let known = tested zs c.args.base l.i c.requires.0 c.requires.1 c.loop-i-test.true in
-    sym (none_out_at (length zs) l.i (differences zs) l.invariant.1 c.loop-i-test.true (sym (c.if-not-in_range.ensures ∙ ap in_range known)) difference)
+    sym (none_out_at (length zs) l.i (differences zs) l.invariant c.loop-i-test.true (sym (c.if-not-in_range.ensures ∙ ap in_range known)) difference)
 
 pub returns : goal.returns
 unfolding difference_check
 returns c =
     let last : length c.args.zs.now ≡ c.loop-i.i = omega arith in
-    rw last (sym (c.loop-i.invariant.1 difference))
+    rw last (sym (c.loop-i.invariant difference))
 
 -- ---- what its steps ask
 
-pub overflow_sub-zs : goal.overflow_sub-zs
-overflow_sub-zs c = fits tt (left c.args.zs.now c.args.base c.loop-i.i c.requires.0 c.requires.1 c.loop-i-test.true).held
+pub overflow_sub-z : goal.overflow_sub-z
+overflow_sub-z c = fits tt (left c.args.zs.now c.args.base c.loop-i.i c.requires.0 c.requires.1 c.loop-i-test.true).held

@@ -1,11 +1,7 @@
 -- The loop keeps: no difference passed is out of range.
-use Rattle.std.proofs.Common.{◌-◌, ◌≤◌, length}
 use Rattle.rules.specs.Fit.{differences}
 use Rattle.rules.specs.Laws.Checks.{NoneOut}
 use Rattle.base.proofs.first_far.Given as goal
 
 abbrev pub invariant-loop-i : goal.invariant-loop-i
-invariant-loop-i l = (l.i ≤ length l.zs) × NoneOut l.i (differences l.zs)
-
-abbrev pub decreases-loop-i : goal.decreases-loop-i
-decreases-loop-i l = length l.zs - l.i
+invariant-loop-i l = NoneOut l.i (differences l.zs)

@@ -2,6 +2,7 @@
 use Rattle.std.proofs.Common.{◌≡◌, ◌≤◌, Bool, true, List, length, sym, ap, ◌∙◌, arith, to_z, of_z}
 use Rattle.std.proofs.Math.Option.{none}
 use Rattle.std.proofs.Math.IntN.{+ℤ_idl}
+use Rattle.std.proofs.lemmas.Result.{err_from_is_err_and}
 use Rattle.std.specs.Prelude.{ℤ, pos, neg_ℤ, ◌-ℤ◌}
 use Rattle.std.specs.Int.{w64}
 use Rattle.machine.specs.Held.{Number, number, Held, literal, read, minus, fits, small}
@@ -46,21 +47,23 @@ lowering zs b ranged is = number (minus (literal (pos 0)) (base_held zs b ranged
 
 -- ---- what it answers
 
-pub returns-then-all_shifted : goal.returns-then-all_shifted
-returns-then-all_shifted c =
+pub returns-else-not-all_shifted : goal.returns-else-not-all_shifted
+returns-else-not-all_shifted c =
     let zs = c.args.zs.now in
     let q = c.requires in
     let is = base_is zs c.args.sum q.0 q.1 q.2 c.near_mean-base.ensures in
-    none_answer (base zs) (none_far zs _ (read tt (lowering zs _ q.1 is).held).is (any_refusal zs _ c.all_shifted.ensures c.if-all_shifted.true)) (base_held zs _ q.1 is).is
+    none_answer (base zs) (none_far zs _ (read tt (lowering zs _ q.1 is).held).is (any_refusal zs _ c.all_shifted.ensures c.if-not-all_shifted.false)) (base_held zs _ q.1 is).is
 
-pub returns-in-Fine : goal.returns-in-Fine
-returns-in-Fine c =
+pub returns-in_ok-first_far : goal.returns-in_ok-first_far
+returns-in_ok-first_far c =
     let zs = c.args.zs.now in
     let q = c.requires in
-    none_answer (base zs) (sym c.in-Fine.ensures) (base_held zs _ q.1 (base_is zs c.args.sum q.0 q.1 q.2 c.near_mean-base.ensures)).is
+    none_answer (base zs) (sym c.in_ok-first_far.ensures) (base_held zs _ q.1 (base_is zs c.args.sum q.0 q.1 q.2 c.near_mean-base.ensures)).is
 
-pub returns-in-Refused : goal.returns-in-Refused
-returns-in-Refused c = some_answer (base c.args.zs.now) (sym c.in-Refused.ensures)
+pub returns-in_err-first_far : goal.returns-in_err-first_far
+returns-in_err-first_far c =
+    let p = err_from_is_err_and c.from_residual.result c.from_residual.ensures.1 in
+    rw (p.1, p.2) (some_answer (base c.args.zs.now) (sym c.in_err-first_far.ensures))
 
 -- ---- what its calls ask
 

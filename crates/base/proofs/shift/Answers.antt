@@ -16,7 +16,7 @@ sum values b i small least listed = number (plus (read tt (itself (get_or values
 
 pub loop-i-init : goal.loop-i-init
 unfolding tabulate
-loop-i-init c = (omega arith, refl, sym (over_none c.args.to.now))
+loop-i-init c = (refl, sym (over_none c.args.to.now))
 
 pub loop-i-preserved : goal.loop-i-preserved
 loop-i-preserved c =
@@ -25,9 +25,8 @@ loop-i-preserved c =
     -- b, by its bits, read back
     let b = to_z w64 (of_z w64 a.b) in
     let least : nat_abs b ≤ limit = rw (plain a.b c.ranges.b.sfits) c.requires.2 in (
-      omega arith,
-      simp length-set l.invariant.1,
-      fill_store l.i (sum_at a.values.now b) a.to.now (pos 0) (omega arith) l.invariant.2 (read tt (sum a.values.now b l.i c.requires.1 least c.loop-i-test.true).held).is,
+      simp length-set l.invariant.0,
+      fill_store l.i (sum_at a.values.now b) a.to.now (pos 0) (omega arith) l.invariant.1 (read tt (sum a.values.now b l.i c.requires.1 least c.loop-i-test.true).held).is,
     )
 
 pub returns : goal.returns
@@ -37,6 +36,6 @@ returns c =
     let a = c.args in
     let values = a.values.now in
     let e : l.i ≡ length values = omega arith in
-    l.invariant.2
+    l.invariant.1
     ∙ ap (λ n. over (tabulate n (sum_at values (to_z w64 (of_z w64 a.b)))) a.to.now) e
     ∙ ap (λ b. over (tabulate (length values) (sum_at values b)) a.to.now) (plain a.b c.ranges.b.sfits)

@@ -1,5 +1,5 @@
 -- The places passed hold the sums.
-use Rattle.std.proofs.Common.{◌≡◌, ℕ, ◌-◌, ◌≤◌, List, length, get_or}
+use Rattle.std.proofs.Common.{◌≡◌, ℕ, List, length, get_or}
 use Rattle.std.specs.Prelude.{ℤ, pos, ◌+ℤ◌}
 use Rattle.algebra.specs.Table.{tabulate, over}
 use Rattle.base.proofs.shift.Given as goal
@@ -8,7 +8,4 @@ abbrev pub sum_at : List ℤ → ℤ → ℕ → ℤ
 sum_at values b i = get_or values i (pos 0) +ℤ b
 
 abbrev pub invariant-loop-i : goal.invariant-loop-i
-invariant-loop-i l = (l.i ≤ length l.values) × (length l.to ≡ length l.initial.to) × (l.to ≡ over (tabulate l.i (sum_at l.values l.b)) l.initial.to)
-
-abbrev pub decreases-loop-i : goal.decreases-loop-i
-decreases-loop-i l = length l.values - l.i
+invariant-loop-i l = (length l.to ≡ length l.initial.to) × (l.to ≡ over (tabulate l.i (sum_at l.values l.b)) l.initial.to)

@@ -1,14 +1,16 @@
 -- Where no confidence is 0, 17 refuses none; else the points up to the first that has one are asked for 5 and 6, and then that one is refused by 17.
-use Rattle.std.proofs.Common.{◌≡◌, ℕ, suc, ◌+◌, ◌≤◌, ◌<◌, true, List, length, take, T, refl, sym, ap, ap₂, subst, ◌∙◌, add-one, arith}
+use Rattle.std.proofs.Common.{◌≡◌, ℕ, suc, ◌+◌, ◌≤◌, ◌<◌, true, List, length, take, refl, sym, ap, ap₂, ◌∙◌, add-one, arith}
 use Rattle.std.proofs.Math.Option.{some}
 use Rattle.std.proofs.Math.Seq.{get_or-take, length-take-le}
 use Rattle.std.specs.Prelude.{ℤ, pos}
+use Rattle.std.proofs.lemmas.Result.{err_from_is_err_and}
 use Rattle.rules.specs.Grid.{confident}
-use Rattle.rules.specs.Fit.{Survey, survey, point_count, point_at, total}
+use Rattle.rules.specs.Fit.{Survey, point_count, point_at, total}
 use Rattle.rules.specs.Answers.{Refusal, confidence, Check, require, ◌then◌, first_of, refused, answer}
 use Rattle.rules.specs.Calls.{spot_check, point_check, points_check}
-use Rattle.rules.proofs.Laws.Checks.{byte_sure, then_none, then_some, then_pass, then_assoc, first_of_same, first_of_at, first_of_refusal}
-use Rattle.point_checks.specs.Sure.{each_sure, FirstUnsure}
+use Rattle.rules.proofs.Laws.Checks.{then_none, then_some, then_pass, then_assoc, first_of_same, first_of_at, first_of_refusal}
+use Rattle.survey.specs.Survey.{survey_of}
+use Rattle.point_checks.specs.Sure.{FirstUnsure}
 use Rattle.point_checks.specs.Spots.{spot_at}
 use Rattle.point_checks.specs.Told as points_told
 use Rattle.point_checks.proofs.points.Goals as goal
@@ -58,29 +60,31 @@ pub returns-then-all_sure : goal.returns-then-all_sure
 unfolding spot_check
 returns-then-all_sure c =
     let a = c.args in
-    let s = survey a.xs.now a.ys.now a.zs.now a.qs.now in
+    let s = survey_of a.points.now in
     let each : (i : ℕ) → i < point_count s → confident (point_at s i).q ≡ true =
-    λ i l. byte_sure _ (each_sure (length s.qs) s.qs (subst T c.if-all_sure.ensures tt) i (omega arith)) (omega (arith, c.type_inv.qs i)) in
-    c.spots.ensures ∙ ap (λ k. answer k (total (point_count s) s.zs)) (sym (all_sure_is a.m a.n s each))
+    λ i l. c.if-all_sure.ensures.confident refl i (omega arith) in
+    c.spots.ensures ∙ ap (λ k. answer k (total (point_count s) s.zs)) (sym (all_sure_is a.cells.m a.cells.n s each))
 
-pub returns-in-Sum : goal.returns-in-Sum
+pub returns : goal.returns
 unfolding spot_check
-returns-in-Sum c =
+returns c =
     let a = c.args in
     let u = c.first_unsure-unsure in
     let l = u.ensures.listed in
-    let s = survey a.xs.now a.ys.now a.zs.now a.qs.now in
-    let none_placed = (points_told.summed _ _ c.in-Sum.ensures refl).0 in
-    let known = asked a.m a.n (u.result + 1) a.xs.now a.ys.now a.zs.now (omega arith) in
-    unsure_is a.m a.n s u.result u.ensures (omega arith) _ _ (then_none _ _ (ap (λ k. first_of k (spot a.m a.n s)) (sym (add-one u.result)) ∙ sym known ∙ none_placed))
+    let s = survey_of a.points.now in
+    let none_placed = (points_told.summed _ _ c.in_ok-spots.ensures refl).0 in
+    let known = asked a.cells.m a.cells.n (u.result + 1) s.xs s.ys s.zs (omega arith) in
+    unsure_is a.cells.m a.cells.n s u.result u.ensures (omega arith) _ _ (then_none _ _ (ap (λ k. first_of k (spot a.cells.m a.cells.n s)) (sym (add-one u.result)) ∙ sym known ∙ none_placed))
 
-pub returns-in-Refused : goal.returns-in-Refused
+pub returns-in_err-spots : goal.returns-in_err-spots
 unfolding spot_check
-returns-in-Refused c =
+returns-in_err-spots c =
     let a = c.args in
     let u = c.first_unsure-unsure in
     let l = u.ensures.listed in
-    let s = survey a.xs.now a.ys.now a.zs.now a.qs.now in
-    let first_placed = points_told.refused _ _ c.in-Refused.ensures refl in
-    let known = asked a.m a.n (u.result + 1) a.xs.now a.ys.now a.zs.now (omega arith) in
-    unsure_is a.m a.n s u.result u.ensures (omega arith) _ _ (then_some _ _ (ap (λ k. first_of k (spot a.m a.n s)) (sym (add-one u.result)) ∙ sym known ∙ first_placed))
+    let s = survey_of a.points.now in
+    let first_placed = points_told.refused _ _ c.in_err-spots.ensures refl in
+    let known = asked a.cells.m a.cells.n (u.result + 1) s.xs s.ys s.zs (omega arith) in
+    let p = err_from_is_err_and c.from_residual.result c.from_residual.ensures.1 in
+    rw (p.1, p.2)
+    (unsure_is a.cells.m a.cells.n s u.result u.ensures (omega arith) _ _ (then_some _ _ (ap (λ k. first_of k (spot a.cells.m a.cells.n s)) (sym (add-one u.result)) ∙ sym known ∙ first_placed)))

@@ -63,46 +63,45 @@ tested z f e = sym (e ∙ ap in_range (plain z f))
 
 pub loop-i-init : goal.loop-i-init
 unfolding total
-loop-i-init c = (omega arith, below_none _, refl)
+loop-i-init c = (below_none _, refl)
 
 pub returns-then-right-xs : goal.returns-then-right-xs
 returns-then-right-xs c =
     let a = c.args in
     let l = c.loop-i in
-    first a.m a.n a.xs.now a.ys.now a.zs.now l.i _ _ l.invariant.1 c.loop-i-test.true (past_right a.m a.n a.xs.now a.ys.now a.zs.now l.i (omega arith))
+    first a.cells.m a.cells.n a.xs.now a.ys.now a.zs.now l.i _ _ l.invariant.0 c.loop-i-test.true (past_right a.cells.m a.cells.n a.xs.now a.ys.now a.zs.now l.i (omega arith))
 
 pub returns-then-top-ys : goal.returns-then-top-ys
 returns-then-top-ys c =
     let a = c.args in
     let l = c.loop-i in
-    first a.m a.n a.xs.now a.ys.now a.zs.now l.i _ _ l.invariant.1 c.loop-i-test.true
-    (past_top a.m a.n a.xs.now a.ys.now a.zs.now l.i (omega arith) (omega arith))
+    first a.cells.m a.cells.n a.xs.now a.ys.now a.zs.now l.i _ _ l.invariant.0 c.loop-i-test.true
+    (past_top a.cells.m a.cells.n a.xs.now a.ys.now a.zs.now l.i (omega arith) (omega arith))
 
 pub returns-then-not-in_range : goal.returns-then-not-in_range
 returns-then-not-in_range c =
     let a = c.args in
     let l = c.loop-i in
-    first a.m a.n a.xs.now a.ys.now a.zs.now l.i _ _ l.invariant.1 c.loop-i-test.true
-    (out a.m a.n a.xs.now a.ys.now a.zs.now l.i (omega arith) (omega arith) (tested _ (omega arith) c.if-not-in_range.ensures))
+    first a.cells.m a.cells.n a.xs.now a.ys.now a.zs.now l.i _ _ l.invariant.0 c.loop-i-test.true
+    (out a.cells.m a.cells.n a.xs.now a.ys.now a.zs.now l.i (omega arith) (omega arith) (tested _ (omega arith) c.if-not-in_range.ensures))
 
 pub overflow_add-sum : goal.overflow_add-sum
 overflow_add-sum c =
     let a = c.args in
     let l = c.loop-i in
-    fits tt (sum a.zs.now l.i _ l.invariant.2 (omega arith) (ranged a.m a.n a.xs.now a.ys.now a.zs.now l.i l.invariant.1) (tested _ (omega arith) c.if-not-in_range.ensures)).held
+    fits tt (sum a.zs.now l.i _ l.invariant.1 (omega arith) (ranged a.cells.m a.cells.n a.xs.now a.ys.now a.zs.now l.i l.invariant.0) (tested _ (omega arith) c.if-not-in_range.ensures)).held
 
 pub loop-i-preserved : goal.loop-i-preserved
 loop-i-preserved c =
     let a = c.args in
     let l = c.loop-i in
     let here : in_range (get_or a.zs.now l.i (pos 0)) ≡ true = tested _ (omega arith) c.if-not-in_range.ensures in (
-      omega arith,
-      below_more _ _ l.invariant.1 (fine a.m a.n a.xs.now a.ys.now a.zs.now l.i (omega arith) (omega arith) here),
-      (read tt (sum a.zs.now l.i _ l.invariant.2 (omega arith) (ranged a.m a.n a.xs.now a.ys.now a.zs.now l.i l.invariant.1) here).held).is ∙ sym (total_more l.i a.zs.now),
+      below_more _ _ l.invariant.0 (fine a.cells.m a.cells.n a.xs.now a.ys.now a.zs.now l.i (omega arith) (omega arith) here),
+      (read tt (sum a.zs.now l.i _ l.invariant.1 (omega arith) (ranged a.cells.m a.cells.n a.xs.now a.ys.now a.zs.now l.i l.invariant.0) here).held).is ∙ sym (total_more l.i a.zs.now),
     )
 
 pub returns : goal.returns
 unfolding answer
 returns c =
     let last : length c.args.xs.now ≡ c.loop-i.i = omega arith in
-    rw (last, first_of_all _ _ c.loop-i.invariant.1) (ap accepted c.loop-i.invariant.2)
+    rw (last, first_of_all _ _ c.loop-i.invariant.0) (ap accepted c.loop-i.invariant.1)

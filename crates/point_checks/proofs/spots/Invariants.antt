@@ -1,5 +1,5 @@
 -- The loop keeps: no point before i is refused, and the sum is that of their heights.
-use Rattle.std.proofs.Common.{◌≡◌, ℕ, ◌-◌, ◌≤◌, ◌<◌, length}
+use Rattle.std.proofs.Common.{◌≡◌, ℕ, ◌<◌}
 use Rattle.std.proofs.Math.Option.{none}
 use Rattle.rules.specs.Fit.{total}
 use Rattle.point_checks.specs.Spots.{spot_at}
@@ -7,7 +7,4 @@ use Rattle.point_checks.proofs.spots.Given as goal
 
 abbrev pub invariant-loop-i : goal.invariant-loop-i
 invariant-loop-i l =
-    (l.i ≤ length l.xs) × ((k : ℕ) → k < l.i → spot_at l.m l.n l.xs l.ys l.zs k ≡ none) × (l.sum ≡ total l.i l.zs)
-
-abbrev pub decreases-loop-i : goal.decreases-loop-i
-decreases-loop-i l = length l.xs - l.i
+    ((k : ℕ) → k < l.i → spot_at l.fn.cells.m l.fn.cells.n l.xs l.ys l.zs k ≡ none) × (l.sum ≡ total l.i l.zs)
