@@ -1,22 +1,22 @@
-// Where the records of a lattice file start and how many values it has, for its reader and its writer.
+// Where the records of a lattice file start, for its reader and its writer.
 #![tactic(auto)]
 
 ghost use Rattle.std.specs.Prelude.{◌≡◌, ◌^◌, ◌≤◌, ◌<◌};
-ghost use Rattle.rules.specs.Grid.{controls};
-ghost use Rattle.rules.specs.LatticeFile.{row_start};
+ghost use Rattle.rules.specs.LatticeFile.{row_length, row_start};
 
-// The byte at which row record r starts; that of row n + 3 is the end's.
-pub fn row_start(m: usize, r: usize) -> usize
-    requires { (m ≤ 512) × (r ≤ 515) }
-    ensures { (result ≡ row_start m r) × (result < 2 ^ 22) }
+use grid::Cells;
+
+// The bytes of a row record.
+pub fn row_length(cells: Cells) -> usize
+    ensures { (result ≡ row_length cells.m) × (result ≤ 4_124) }
 {
-    6 + r * (4 + 8 * (m + 3))
+    4 + 8 * cells.width()
 }
 
-// The number of control values.
-pub fn count(m: usize, n: usize) -> usize
-    requires { (m ≤ 512) × (n ≤ 512) }
-    ensures { result ≡ controls m n }
+// The byte at which row record r starts; that of row n + 3 is the end's.
+pub fn row_start(cells: Cells, r: usize) -> usize
+    requires { r ≤ 515 }
+    ensures { (result ≡ row_start cells.m r) × (result < 2 ^ 22) }
 {
-    (m + 3) * (n + 3)
+    6 + r * row_length(cells)
 }

@@ -1,92 +1,82 @@
 // The records of a lattice file, judged: its head, its rows and its end.
 #![tactic(auto)]
 
-ghost use Rattle.std.specs.Prelude.{◌≡◌, ◌+◌, ◌*◌, ◌≤◌, length};
+ghost use Rattle.std.specs.Prelude.{◌≡◌, ◌+◌, ◌*◌, ◌≤◌, length, IfOk};
 ghost use Rattle.rules.specs.Answers.{first_of};
 ghost use Rattle.rules.specs.LatticeFile as rule;
 ghost use Rattle.answers.specs.Cause.{check};
-ghost use Rattle.lattice_records.specs.Judged.{value_check};
+ghost use Rattle.grid.specs.Counts.{counts};
+ghost use Rattle.lattice_records.specs.Judged.{value_check, file_cells};
 
-use answers::{Refusal, Verdict};
-use records::{E, H, L, R};
+use answers::Refusal;
+use grid::Cells;
+use records::{LE, LH, LR};
 
 // "LH" with m and n
-pub fn head(file: &[u8]) -> Verdict
-    ensures { check result ≡ rule.lattice_head_check file.now }
+pub fn head(file: &[u8]) -> Result<Cells, Refusal>
+    ensures checked { check result ≡ rule.lattice_head_check file.now }
+    ensures read { IfOk result (λ cells. counts cells ≡ file_cells file.now) }
 {
-    if let Verdict::Refused(r) = records::record(file, 0, 6, L, H) {
-        return Verdict::Refused(r);
+    records::record(file, 0, 6, LH)?;
+    let m = codec::u16_at(file, 2) as usize;
+    let n = codec::u16_at(file, 4) as usize;
+    if !checks::within(1, 512, m) {
+        return Err(Refusal::Field(2));
     }
-    if !checks::within(1, 512, codec::u16_at(file, 2) as usize) {
-        return Verdict::Refused(Refusal::Field(2));
+    if !checks::within(1, 512, n) {
+        return Err(Refusal::Field(4));
     }
-    if !checks::within(1, 512, codec::u16_at(file, 4) as usize) {
-        return Verdict::Refused(Refusal::Field(4));
-    }
-    Verdict::Fine
+    Ok(Cells { m, n })
 }
 
-// The first of the m + 3 values from byte s on that is out of range.
-fn values(file: &[u8], m: usize, s: usize) -> Verdict
-    requires { (m ≤ 512) × (s + 8 * (m + 3) ≤ length file.now) }
-    ensures { check result ≡ first_of (m + 3) (value_check file.now s) }
+// The first of the values of a row that is out of range; they stand from byte s on.
+fn values(file: &[u8], cells: Cells, s: usize) -> Result<(), Refusal>
+    requires { s + 8 * (cells.m + 3) ≤ length file.now }
+    ensures { check result ≡ first_of (cells.m + 3) (value_check file.now s) }
 {
-    let mut c = 0;
-    while c < m + 3 {
+    for c in 0..cells.width() {
         let at = s + 8 * c;
-        let z = codec::value_at(file, at);
-        if !range::in_range(z) {
-            return Verdict::Refused(Refusal::Field(at));
+        if !range::in_range(codec::value_at(file, at)) {
+            return Err(Refusal::Field(at));
         }
-        c += 1;
     }
-    Verdict::Fine
+    Ok(())
 }
 
 // "LR" with its row number and its values
-fn row(file: &[u8], m: usize, r: usize) -> Verdict
-    requires { (m ≤ 512) × (r ≤ 514) }
-    ensures { check result ≡ rule.row_check m file.now r }
+fn row(file: &[u8], cells: Cells, r: usize) -> Result<(), Refusal>
+    requires { r ≤ 514 }
+    ensures { check result ≡ rule.row_check cells.m file.now r }
 {
-    let s = lattice_layout::row_start(m, r);
-    if let Verdict::Refused(v) = records::record(file, s, 4 + 8 * (m + 3), L, R) {
-        return Verdict::Refused(v);
-    }
+    let s = lattice_layout::row_start(cells, r);
+    records::record(file, s, lattice_layout::row_length(cells), LR)?;
     if codec::u16_at(file, s + 2) as usize != r {
-        return Verdict::Refused(Refusal::Field(s + 2));
+        return Err(Refusal::Field(s + 2));
     }
-    values(file, m, s + 4)
+    values(file, cells, s + 4)
 }
 
 // All n + 3 rows.
-pub fn rows(file: &[u8], m: usize, n: usize) -> Verdict
-    requires { (m ≤ 512) × (n ≤ 512) }
-    ensures { check result ≡ first_of (n + 3) (rule.row_check m file.now) }
+pub fn rows(file: &[u8], cells: Cells) -> Result<(), Refusal>
+    ensures { check result ≡ first_of (cells.n + 3) (rule.row_check cells.m file.now) }
 {
-    let mut r = 0;
-    while r < n + 3 {
-        if let Verdict::Refused(v) = row(file, m, r) {
-            return Verdict::Refused(v);
-        }
-        r += 1;
+    for r in 0..cells.rows() {
+        row(file, cells, r)?;
     }
-    Verdict::Fine
+    Ok(())
 }
 
 // "LE" with its count, and nothing after it
-pub fn end(file: &[u8], m: usize, n: usize) -> Verdict
-    requires { (m ≤ 512) × (n ≤ 512) }
-    ensures { check result ≡ rule.end_check m n file.now }
+pub fn end(file: &[u8], cells: Cells) -> Result<(), Refusal>
+    ensures { check result ≡ rule.end_check cells.m cells.n file.now }
 {
-    let s = lattice_layout::row_start(m, n + 3);
-    if let Verdict::Refused(v) = records::record(file, s, 4, L, E) {
-        return Verdict::Refused(v);
-    }
-    if codec::u16_at(file, s + 2) as usize != n + 3 {
-        return Verdict::Refused(Refusal::Field(s + 2));
+    let s = lattice_layout::row_start(cells, cells.rows());
+    records::record(file, s, 4, LE)?;
+    if codec::u16_at(file, s + 2) as usize != cells.rows() {
+        return Err(Refusal::Field(s + 2));
     }
     if file.len() != s + 4 {
-        return Verdict::Refused(Refusal::Trailing(s + 4));
+        return Err(Refusal::Trailing(s + 4));
     }
-    Verdict::Fine
+    Ok(())
 }

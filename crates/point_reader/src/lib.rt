@@ -1,50 +1,40 @@
 // The point file's reader: it accepts exactly the files of point lists in bounds.
 #![tactic(auto)]
 
-ghost use Rattle.std.specs.Prelude.{◌≡◌, ◌+◌, ◌≤◌, length};
+ghost use Rattle.std.specs.Prelude.{◌≡◌, ◌≤◌, length};
 ghost use Rattle.algebra.specs.Table.{over, tabulate};
 ghost use Rattle.rules.specs.Answers.{outcome};
-ghost use Rattle.rules.specs.Bytes.{number_at};
 ghost use Rattle.rules.specs.Fit.{survey};
 ghost use Rattle.rules.specs.PointFile as rule;
-ghost use Rattle.point_records.specs.Read.{told, Held};
+ghost use Rattle.answers.specs.Told.{told_as};
+ghost use Rattle.point_records.specs.Read.{header_of, Held};
 
 use answers::Refusal;
-use point_records::{Kind, PointsRead};
+use point_records::{Header, Kind};
 
-// The u16 that stands `at` bytes into each of the first p point records: the positions along x, or along y.
-fn copy_positions(file: &[u8], kind: Kind, at: usize, p: usize, out: &mut [u16])
-    requires { (at ≤ 12) × Held file.now kind p × (p ≤ length out.old) }
-    ensures { out.new ≡ over (tabulate p (λ i. number_at 2 file.now (rule.file_start file.now i + at))) out.old }
+// The fields of the first p point records. By itself its loop has registers enough.
+#[inline(never)]
+fn copy(
+    file: &[u8],
+    kind: Kind,
+    p: usize,
+    xs: &mut [u16],
+    ys: &mut [u16],
+    zs: &mut [i64],
+    qs: &mut [u8],
+)
+    requires { Held file.now kind p × (p ≤ length xs.old) × (p ≤ length ys.old) × (p ≤ length zs.old) × (p ≤ length qs.old) }
+    ensures x { xs.new ≡ over (tabulate p (rule.file_x file.now)) xs.old }
+    ensures y { ys.new ≡ over (tabulate p (rule.file_y file.now)) ys.old }
+    ensures z { zs.new ≡ over (tabulate p (rule.file_z file.now)) zs.old }
+    ensures q { qs.new ≡ over (tabulate p (rule.file_q file.now)) qs.old }
 {
-    let mut i = 0;
-    while i < p {
-        out[i] = codec::u16_at(file, point_records::start(kind, i) + at);
-        i += 1;
-    }
-}
-
-// The heights of the first p point records.
-fn copy_heights(file: &[u8], kind: Kind, p: usize, out: &mut [i64])
-    requires { Held file.now kind p × (p ≤ length out.old) }
-    ensures { out.new ≡ over (tabulate p (rule.file_z file.now)) out.old }
-{
-    let mut i = 0;
-    while i < p {
-        out[i] = codec::value_at(file, point_records::start(kind, i) + 6);
-        i += 1;
-    }
-}
-
-// The confidences of the first p point records.
-fn copy_confidences(file: &[u8], kind: Kind, p: usize, out: &mut [u8])
-    requires { Held file.now kind p × (p ≤ length out.old) }
-    ensures { out.new ≡ over (tabulate p (rule.file_q file.now)) out.old }
-{
-    let mut i = 0;
-    while i < p {
-        out[i] = point_records::confidence(file, kind, point_records::start(kind, i));
-        i += 1;
+    for i in 0..p {
+        let s = kind.start(i);
+        xs[i] = codec::u16_at(file, s + 2);
+        ys[i] = codec::u16_at(file, s + 4);
+        zs[i] = codec::value_at(file, s + 6);
+        qs[i] = kind.confidence(file, s);
     }
 }
 
@@ -54,30 +44,14 @@ pub fn read_points(
     ys: &mut [u16],
     zs: &mut [i64],
     qs: &mut [u8],
-) -> PointsRead
-    ensures { outcome (told result) (survey xs.new ys.new zs.new qs.new) ≡ rule.read_points_call file.now (survey xs.old ys.old zs.old qs.old) }
+) -> Result<Header, Refusal>
+    ensures { outcome (told_as header_of result) (survey xs.new ys.new zs.new qs.new) ≡ rule.read_points_call file.now (survey xs.old ys.old zs.old qs.old) }
 {
-    let read = point_records::judge(file);
-    let PointsRead::Header(header) = read else {
-        return read;
-    };
+    let header = point_records::judge(file)?;
     let p = header.points;
-    if xs.len() < p {
-        return PointsRead::Refused(Refusal::Short);
+    if xs.len() < p || ys.len() < p || zs.len() < p || qs.len() < p {
+        return Err(Refusal::Short);
     }
-    if ys.len() < p {
-        return PointsRead::Refused(Refusal::Short);
-    }
-    if zs.len() < p {
-        return PointsRead::Refused(Refusal::Short);
-    }
-    if qs.len() < p {
-        return PointsRead::Refused(Refusal::Short);
-    }
-    let kind = point_records::kind_of(file);
-    copy_positions(file, kind, 2, p, xs);
-    copy_positions(file, kind, 4, p, ys);
-    copy_heights(file, kind, p, zs);
-    copy_confidences(file, kind, p, qs);
-    PointsRead::Header(header)
+    copy(file, point_records::kind_of(file), p, xs, ys, zs, qs);
+    Ok(header)
 }

@@ -1,17 +1,15 @@
--- Document 01's answer for each case of the reader's, what a file's header says, and the kinds of its records.
+-- What a file's header says, and the kinds of its records.
 use Rattle.std.specs.Prelude.{◌≡◌, ℕ, ◌*◌, ◌≤◌, List, length}
-use Rattle.rules.specs.Answers as rule
-use Rattle.rules.specs.Fit.{shape, columns, rows}
+use Rattle.rules.specs.Fit.{columns, rows}
 use Rattle.rules.specs.PointFile as file
-use Rattle.answers.specs.Cause.{cause}
-use Rattle.point_records.specs.declared.PointsRead.{PointsRead}
-use Rattle.point_records.specs.declared.PointsRead.TheVariants.{Header, Refused}
+use Rattle.survey.specs.Survey.{shape_of}
+use Rattle.point_records.specs.declared.Header.{Header}
 use Rattle.point_records.specs.declared.Kind.{Kind}
 use Rattle.point_records.specs.declared.Kind.TheVariants.{Pt, Pq}
 
-abbrev pub told : PointsRead → rule.Answer file.Header
-told (Header r) = rule.accepted (record { shape = shape r.m0 r.n0 r.h; points = r.points })
-told (Refused r) = rule.refused (cause r)
+-- the rules' header for the code's
+abbrev pub header_of : Header → file.Header
+header_of a = record { shape = shape_of a.shape; points = a.points }
 
 -- what an accepted file's reader returns
 abbrev pub header : List ℕ → file.Header

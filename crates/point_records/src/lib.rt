@@ -1,165 +1,179 @@
 // The records of a point file, judged, and what its head says.
 #![tactic(auto)]
 
-ghost use Rattle.std.specs.Prelude.{◌≡◌, ◌+◌, ◌^◌, ◌≤◌, ◌<◌, length};
+ghost use Rattle.std.specs.Prelude.{◌≡◌, ◌+◌, ◌^◌, ◌≤◌, ◌<◌, length, IfOk};
 ghost use Rattle.rules.specs.Answers.{answer, first_of};
 ghost use Rattle.rules.specs.Bytes.{record_check};
 ghost use Rattle.rules.specs.PointFile as rule;
 ghost use Rattle.answers.specs.Cause.{check};
-ghost use Rattle.point_records.specs.Read.{told, header, ruled, Measured};
+ghost use Rattle.answers.specs.Told.{told_as};
+ghost use Rattle.survey.specs.Survey.{shape_of};
+ghost use Rattle.point_records.specs.Read.{header_of, header, ruled, Measured};
 
-use answers::{Refusal, Verdict};
-use records::{H, P, Q, T};
+use answers::Refusal;
+use records::{PH, PQ, PT};
+use survey::Shape;
 
-// What a point file's head says: m0, n0, h and the number of points.
-#[derive(Drop)]
+// What a point file's head says: the shape and the number of points.
+#[derive(Clone, Copy)]
 pub struct Header {
-    pub m0: usize,
-    pub n0: usize,
-    pub h: usize,
+    pub shape: Shape,
     pub points: usize,
 }
 
-#[derive(Drop)]
-pub enum PointsRead {
-    Header(Header),
-    Refused(Refusal),
-}
-
-// The mark of a file's point records, all alike: "PT", or "PQ".
+// A file's point records are all alike: "PT", or "PQ".
 #[derive(Clone, Copy)]
 pub enum Kind {
     Pt,
     Pq,
 }
 
+impl Kind {
+    // The bytes of a record.
+    fn size(self) -> usize
+        ensures { result ≡ rule.size_of (ruled self) }
+    {
+        match self {
+            Kind::Pt => 14,
+            Kind::Pq => 15,
+        }
+    }
+
+    // A record of this kind that starts at s: incomplete, then a wrong mark. The kind is told first, so that the compiler makes a loop over a file's
+    // records for each kind.
+    fn record(self, file: &[u8], s: usize) -> Result<(), Refusal>
+        requires { s < 2 ^ 32 }
+        ensures { check result ≡ record_check (rule.mark_of (ruled self)) file.now s (rule.size_of (ruled self)) }
+    {
+        match self {
+            Kind::Pt => records::record(file, s, 14, PT),
+            Kind::Pq => records::record(file, s, 15, PQ),
+        }
+    }
+
+    // Where record i starts.
+    pub fn start(self, i: usize) -> usize
+        requires { rule.point_start (ruled self) i < 2 ^ 64 }
+        ensures value { result ≡ rule.point_start (ruled self) i }
+        ensures small { i < 65_536 → result ≤ 983_033 }
+    {
+        8 + self.size() * i
+    }
+
+    // The confidence in the record that starts at s: its last byte, and 1 in a PT record.
+    pub fn confidence(self, file: &[u8], s: usize) -> u8
+        requires { s + rule.size_of (ruled self) ≤ length file.now }
+        ensures { result ≡ rule.last_number (ruled self) file.now (s + 14) }
+    {
+        match self {
+            Kind::Pt => 1,
+            Kind::Pq => file[s + 14],
+        }
+    }
+}
+
 // The first record sets the kind.
 pub fn kind_of(file: &[u8]) -> Kind
     ensures { ruled result ≡ rule.kind_of file.now }
 {
-    if records::marked(file, 8, P, Q) {
-        return Kind::Pq;
-    }
-    Kind::Pt
-}
-
-// Where record i starts.
-pub fn start(kind: Kind, i: usize) -> usize
-    requires { rule.point_start (ruled kind) i < 2 ^ 64 }
-    ensures { result ≡ rule.point_start (ruled kind) i }
-{
-    match kind {
-        Kind::Pt => 8 + 14 * i,
-        Kind::Pq => 8 + 15 * i,
-    }
-}
-
-// The confidence in the record that starts at s: its last byte, and 1 in a PT record.
-pub fn confidence(file: &[u8], kind: Kind, s: usize) -> u8
-    requires { s + rule.size_of (ruled kind) ≤ length file.now }
-    ensures { result ≡ rule.last_number (ruled kind) file.now (s + 14) }
-{
-    match kind {
-        Kind::Pt => 1,
-        Kind::Pq => file[s + 14],
-    }
-}
-
-// A record of this kind that starts at s: incomplete, then a wrong mark.
-fn record(file: &[u8], kind: Kind, s: usize) -> Verdict
-    requires { s < 2 ^ 32 }
-    ensures { check result ≡ record_check (rule.mark_of (ruled kind)) file.now s (rule.size_of (ruled kind)) }
-{
-    match kind {
-        Kind::Pt => records::record(file, s, 14, P, T),
-        Kind::Pq => records::record(file, s, 15, P, Q),
+    if records::marked(file, 8, PQ) {
+        Kind::Pq
+    } else {
+        Kind::Pt
     }
 }
 
 // "PH" with m0, n0, h and a zero byte
-fn head(file: &[u8]) -> Verdict
-    ensures { check result ≡ rule.point_head_check file.now }
+fn head(file: &[u8]) -> Result<Shape, Refusal>
+    ensures checked { check result ≡ rule.point_head_check file.now }
+    ensures read { IfOk result (λ shape. shape_of shape ≡ rule.file_shape file.now) }
 {
-    if let Verdict::Refused(r) = records::record(file, 0, 8, P, H) {
-        return Verdict::Refused(r);
+    records::record(file, 0, 8, PH)?;
+    let shape = Shape {
+        m0: file[2] as usize,
+        n0: file[3] as usize,
+        h: file[4] as usize,
+    };
+    if !checks::within(1, 16, shape.m0) {
+        return Err(Refusal::Field(2));
     }
-    if !checks::within(1, 16, file[2] as usize) {
-        return Verdict::Refused(Refusal::Field(2));
+    if !checks::within(1, 16, shape.n0) {
+        return Err(Refusal::Field(3));
     }
-    if !checks::within(1, 16, file[3] as usize) {
-        return Verdict::Refused(Refusal::Field(3));
-    }
-    if 5 < file[4] {
-        return Verdict::Refused(Refusal::Field(4));
+    if 5 < shape.h {
+        return Err(Refusal::Field(4));
     }
     if file[5] != 0 {
-        return Verdict::Refused(Refusal::Field(5));
+        return Err(Refusal::Field(5));
     }
-    Verdict::Fine
+    Ok(shape)
 }
 
-// A point's record with x, y, z and q; right and top are the last positions of the grid
-fn point(file: &[u8], kind: Kind, right: usize, top: usize, i: usize) -> Verdict
-    requires { Measured file.now kind right top × (i < 65_536) }
-    ensures { check result ≡ rule.point_record_check (rule.file_shape file.now) file.now i }
-{
-    let s = start(kind, i);
-    if let Verdict::Refused(r) = record(file, kind, s) {
-        return Verdict::Refused(r);
-    }
-    if right < codec::u16_at(file, s + 2) as usize {
-        return Verdict::Refused(Refusal::Field(s + 2));
-    }
-    if top < codec::u16_at(file, s + 4) as usize {
-        return Verdict::Refused(Refusal::Field(s + 4));
-    }
-    if !range::in_range(codec::value_at(file, s + 6)) {
-        return Verdict::Refused(Refusal::Field(s + 6));
-    }
-    if confidence(file, kind, s) == 0 {
-        return Verdict::Refused(Refusal::Field(s + 14));
-    }
-    Verdict::Fine
+// What a file's point records are judged by: their kind, and the last positions of the grid along x and y.
+#[derive(Clone, Copy)]
+struct Measure<'a> {
+    file: &'a [u8],
+    kind: Kind,
+    right: usize,
+    top: usize,
+    ghost measured: { Measured file.now kind right top },
 }
 
-// All p point records.
-fn points(file: &[u8], kind: Kind, right: usize, top: usize, p: usize) -> Verdict
-    requires { Measured file.now kind right top × (p < 65_536) }
-    ensures { check result ≡ first_of p (rule.point_record_check (rule.file_shape file.now) file.now) }
-{
-    let mut i = 0;
-    while i < p {
-        if let Verdict::Refused(r) = point(file, kind, right, top, i) {
-            return Verdict::Refused(r);
+impl Measure<'_> {
+    // A point's record with x, y, z and q
+    fn point(&self, i: usize) -> Result<(), Refusal>
+        requires { i < 65_536 }
+        ensures { check result ≡ rule.point_record_check (rule.file_shape self.now.file.now) self.now.file.now i }
+    {
+        let s = self.kind.start(i);
+        self.kind.record(self.file, s)?;
+        if self.right < codec::u16_at(self.file, s + 2) as usize {
+            return Err(Refusal::Field(s + 2));
         }
-        i += 1;
+        if self.top < codec::u16_at(self.file, s + 4) as usize {
+            return Err(Refusal::Field(s + 4));
+        }
+        if !range::in_range(codec::value_at(self.file, s + 6)) {
+            return Err(Refusal::Field(s + 6));
+        }
+        if self.kind.confidence(self.file, s) == 0 {
+            return Err(Refusal::Field(s + 14));
+        }
+        Ok(())
     }
-    Verdict::Fine
+
+    // All p point records. By itself its loop has registers enough.
+    #[inline(never)]
+    fn points(&self, p: usize) -> Result<(), Refusal>
+        requires { p < 65_536 }
+        ensures { check result ≡ first_of p (rule.point_record_check (rule.file_shape self.now.file.now) self.now.file.now) }
+    {
+        for i in 0..p {
+            self.point(i)?;
+        }
+        Ok(())
+    }
 }
 
 // The whole file, and the header of one that is accepted.
-pub fn judge(file: &[u8]) -> PointsRead
-    ensures { told result ≡ answer (rule.point_file_check file.now) (header file.now) }
+pub fn judge(file: &[u8]) -> Result<Header, Refusal>
+    ensures { told_as header_of result ≡ answer (rule.point_file_check file.now) (header file.now) }
 {
-    if let Verdict::Refused(r) = head(file) {
-        return PointsRead::Refused(r);
-    }
-    let m0 = file[2] as usize;
-    let n0 = file[3] as usize;
-    let h = file[4] as usize;
+    let shape = head(file)?;
     let p = codec::u16_at(file, 6) as usize;
     let kind = kind_of(file);
-    if let Verdict::Refused(r) = points(file, kind, 16 * (m0 << h), 16 * (n0 << h), p) {
-        return PointsRead::Refused(r);
-    }
-    let end = start(kind, p);
+    let right = 16 * (shape.m0 << shape.h);
+    let top = 16 * (shape.n0 << shape.h);
+    let measure = Measure {
+        file,
+        kind,
+        right,
+        top,
+    };
+    measure.points(p)?;
+    let end = kind.start(p);
     if file.len() != end {
-        return PointsRead::Refused(Refusal::Trailing(end));
+        return Err(Refusal::Trailing(end));
     }
-    PointsRead::Header(Header {
-        m0,
-        n0,
-        h,
-        points: p,
-    })
+    Ok(Header { shape, points: p })
 }

@@ -1,5 +1,5 @@
 -- The loop's invariant: the control values of the rows passed stand over the output's first places.
-use Rattle.std.proofs.Common.{◌≡◌, List, ℕ, ◌+◌, ◌*◌, ◌-◌, ◌/◌, ◌%◌, ◌≤◌, ℤ, length}
+use Rattle.std.proofs.Common.{◌≡◌, List, ℕ, ◌+◌, ◌*◌, ◌/◌, ◌%◌, ℤ}
 use Rattle.algebra.specs.Table.{tabulate, over}
 use Rattle.rules.specs.Grid.{Lattice}
 use Rattle.rules.specs.Bytes.{value_at}
@@ -14,7 +14,4 @@ abbrev pub stored : List ℕ → ℕ → ℕ → ℤ
 stored file m q = value file m (q % (m + 3)) (q / (m + 3))
 
 abbrev pub invariant-loop-r : goal.invariant-loop-r
-invariant-loop-r l = (l.r ≤ l.n + 3) × (length l.output ≡ length l.initial.output) × (l.output ≡ over (tabulate (l.r * (l.m + 3)) (stored l.file l.m)) l.initial.output)
-
-abbrev pub decreases-loop-r : goal.decreases-loop-r
-decreases-loop-r l = l.n + 3 - l.r
+invariant-loop-r l = l.output ≡ over (tabulate (l.r * l.width) (stored l.file l.cells.m)) l.initial.output

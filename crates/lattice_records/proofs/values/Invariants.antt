@@ -1,12 +1,9 @@
 -- The loop's invariant: no value passed is refused.
-use Rattle.std.proofs.Common.{◌≡◌, ◌+◌, ◌-◌, ◌≤◌}
+use Rattle.std.proofs.Common.{◌≡◌}
 use Rattle.std.proofs.Math.Option.{none}
 use Rattle.rules.specs.Answers.{first_of}
 use Rattle.lattice_records.specs.Judged.{value_check}
 use Rattle.lattice_records.proofs.values.Given as goal
 
 abbrev pub invariant-loop-c : goal.invariant-loop-c
-invariant-loop-c l = (l.c ≤ l.m + 3) × (first_of l.c (value_check l.file l.s) ≡ none)
-
-abbrev pub decreases-loop-c : goal.decreases-loop-c
-decreases-loop-c l = l.m + 3 - l.c
+invariant-loop-c l = first_of l.c (value_check l.file l.s) ≡ none

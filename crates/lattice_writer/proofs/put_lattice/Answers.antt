@@ -6,6 +6,7 @@ use Rattle.rules.proofs.Laws.Bytes.{length_bytes_of}
 use Rattle.rules.specs.LatticeFile.{LH, Le, row_record, lattice_file, row_length, row_start, lattice_file_length}
 use Rattle.lattice_layout.specs.Places.{row_long}
 use Rattle.lattice_writer.proofs.put_lattice.Goals as goal
+use Rattle.lattice_writer.proofs.put_lattice.Goals.{After-row_start-s}
 
 -- the next entries, laid where a result ends
 next : (k : ℕ) (r new d e f : List ℕ) → k ≡ length r → e ≡ over r d → f ≡ laid k new e → f ≡ over (r ++ new) d
@@ -39,6 +40,10 @@ file m n s lattice d e f g h k l start p q r t u v =
     let k' = next s body Le d h k (start ∙ sym (rows_long m n lattice)) h' u in
     next (s + 2) (body ++ Le) (bytes_of 2 (n + 3)) d k l (omega (arith, length-append body Le, rows_long m n lattice)) k' v
 
+-- where the end starts
+starts : (c : After-row_start-s) → c.row_start-s.result ≡ row_start c.args.cells.m (c.args.cells.n + 3)
+starts c = c.row_start-s.ensures.0 ∙ ap (row_start c.args.cells.m) c.rows-rows.ensures
+
 pub put_mark-requires : goal.put_mark-requires
 unfolding lattice_file_length row_start
 put_mark-requires c = omega arith
@@ -53,21 +58,23 @@ put_u16-requires-2 c = omega arith
 
 pub put_rows-requires : goal.put_rows-requires
 unfolding lattice_file_length
-put_rows-requires c = (omega arith, omega arith, omega arith, omega arith)
+put_rows-requires c = (omega arith, omega arith)
 
 pub put_mark-requires-2 : goal.put_mark-requires-2
 unfolding lattice_file_length
-put_mark-requires-2 c = omega arith
+put_mark-requires-2 c = omega (arith, starts (goal.at.put_mark-requires-2 c).After-row_start-s)
 
 pub put_u16-requires-3 : goal.put_u16-requires-3
 unfolding lattice_file_length
-put_u16-requires-3 c = omega arith
+put_u16-requires-3 c = omega (arith, starts (goal.at.put_u16-requires-3 c).After-row_start-s)
 
 pub returns-clause-bytes_written : goal.returns-clause-bytes_written
 unfolding lattice_file_length
-returns-clause-bytes_written c = ap (λ s. s + 4) c.row_start-s.ensures.0
+returns-clause-bytes_written c = ap (λ s. s + 4) (starts (goal.at.returns-clause-bytes_written c).After-row_start-s)
 
 pub returns-clause-output_after : goal.returns-clause-output_after
 returns-clause-output_after c =
     let a = c.args in
-    file a.m a.n _ a.lattice.now a.output.now _ _ _ _ _ _ c.row_start-s.ensures.0 c.put_mark.ensures c.put_u16.ensures c.put_u16-2.ensures c.put_rows.ensures c.put_mark-2.ensures c.put_u16-3.ensures
+    let last = c.put_u16-3.ensures ∙ ap (λ k. laid (c.row_start-s.result + 2) (bytes_of 2 k) c.put_mark-2.new.output) c.rows-rows.ensures in
+    file a.cells.m a.cells.n _ a.lattice.now a.output.now _ _ _ _ _ _ (starts (goal.at.returns-clause-output_after c).After-row_start-s)
+    c.put_mark.ensures c.put_u16.ensures c.put_u16-2.ensures c.put_rows.ensures c.put_mark-2.ensures last

@@ -39,10 +39,11 @@ pub put_values-requires : goal.put_values-requires
 unfolding row_length
 put_values-requires c =
     let a = c.args in
-    rw (part_long (a.r * (a.m + 3)) (a.m + 3) a.lattice.now c.requires.2) (omega arith)
+    rw (c.width-width.ensures, part_long (a.r * (a.cells.m + 3)) (a.cells.m + 3) a.lattice.now c.requires.1) (omega arith)
 
 pub returns : goal.returns
 returns c =
     let a = c.args in
-    record_laid a.lattice.now _ a.output.now _ _ _ a.m a.r _ c.row_start-s.ensures.0 (omega arith)
-    (row_values a.lattice.now a.m a.r (a.r * (a.m + 3)) (a.m + 3) refl refl c.requires.2) c.put_mark.ensures c.put_u16.ensures c.put_values.ensures
+    record_laid a.lattice.now _ a.output.now _ _ _ a.cells.m a.r _ c.row_start-s.ensures.0 (omega arith)
+    (row_values a.lattice.now a.cells.m a.r _ _ (ap (λ k. a.r * k) c.width-width.ensures) c.width-width.ensures (rw c.width-width.ensures c.requires.1))
+    c.put_mark.ensures c.put_u16.ensures c.put_values.ensures

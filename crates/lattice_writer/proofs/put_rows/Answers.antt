@@ -1,5 +1,5 @@
 -- Each row's record follows those of the rows before it.
-use Rattle.std.proofs.Common.{◌≡◌, refl, sym, ap, ◌∙◌, List, ℕ, ◌+◌, ◌≤◌, ℤ, length, arith}
+use Rattle.std.proofs.Common.{◌≡◌, refl, sym, ap, ◌∙◌, List, ℕ, ◌+◌, ◌<◌, ◌≤◌, ℤ, length, arith}
 use Rattle.algebra.specs.Table.{joined, laid, laid_none, laid_joined}
 use Rattle.rules.specs.LatticeFile.{row_record, row_length, row_start}
 use Rattle.lattice_layout.specs.Places.{lattice_row, file_row, row_long}
@@ -16,17 +16,18 @@ more lattice m r d e f h before next =
 
 pub loop-r-init : goal.loop-r-init
 unfolding joined
-loop-r-init c = (omega arith, refl, sym (laid_none _ _))
+loop-r-init c = sym (laid_none _ _)
 
 pub put_row-requires : goal.put_row-requires
 put_row-requires c =
     let a = c.args in
     let r = c.loop-r.r in
-    (omega arith, omega arith, omega (arith, lattice_row a.m a.n r c.loop-r-test.true), omega (arith, file_row a.m a.n r c.loop-r-test.true))
+    let row : r < a.cells.n + 3 = omega arith in
+    (omega arith, omega (arith, lattice_row a.cells.m a.cells.n r row), omega (arith, file_row a.cells.m a.cells.n r row))
 
 pub loop-r-preserved : goal.loop-r-preserved
 unfolding row_start
 loop-r-preserved c =
     let a = c.args in
-    let head : 6 ≤ length a.output.now = omega (arith, c.requires.3) in
-    (omega arith, omega arith, more a.lattice.now a.m c.loop-r.r a.output.now c.loop-r.output _ head c.loop-r.invariant.2 c.put_row.ensures)
+    let head : 6 ≤ length a.output.now = omega (arith, c.requires.1) in
+    more a.lattice.now a.cells.m c.loop-r.r a.output.now c.loop-r.output _ head c.loop-r.invariant c.put_row.ensures

@@ -1,5 +1,5 @@
 -- Each value's bytes follow those of the values before it.
-use Rattle.std.proofs.Common.{◌≡◌, refl, sym, ap, ◌∙◌, List, ℕ, ◌+◌, ◌*◌, ◌^◌, ◌<◌, ◌≤◌, ℤ, pos, length, get_or, arith}
+use Rattle.std.proofs.Common.{◌≡◌, sym, ap, ◌∙◌, List, ℕ, ◌+◌, ◌*◌, ◌^◌, ◌<◌, ◌≤◌, ℤ, pos, length, get_or, arith}
 use Rattle.std.specs.Int.Signed.{mag}
 use Rattle.algebra.specs.Table.{joined, laid, laid_none, laid_joined}
 use Rattle.machine.specs.Tests.{plain}
@@ -19,10 +19,10 @@ more values s i z d e l h before is next =
 
 pub loop-c-init : goal.loop-c-init
 unfolding joined
-loop-c-init c = (omega arith, refl, sym (laid_none _ _))
+loop-c-init c = sym (laid_none _ _)
 
 pub loop-c-preserved : goal.loop-c-preserved
 loop-c-preserved c =
     let a = c.args in
     let fits : mag (get_or a.values.now c.loop-c.c (pos 0)) < 2 ^ 63 = omega arith in
-    (omega arith, omega arith, more a.values.now a.s c.loop-c.c _ a.output.now c.loop-c.output _ (omega arith) c.loop-c.invariant.2 (plain (get_or a.values.now c.loop-c.c (pos 0)) fits) c.put_value.ensures)
+    more a.values.now a.s c.loop-c.c _ a.output.now c.loop-c.output _ (omega arith) c.loop-c.invariant (plain (get_or a.values.now c.loop-c.c (pos 0)) fits) c.put_value.ensures

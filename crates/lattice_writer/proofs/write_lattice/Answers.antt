@@ -1,11 +1,12 @@
 -- The checks in their order, each refusal leaving the output, and then the file.
 use Rattle.std.proofs.Common.{◌≡◌, sym, ap, ap₂, ◌∙◌, List, ℕ, ◌&&◌, ◌≤◌, ℤ, leb, length, arith}
 use Rattle.std.proofs.Math.Option.{none}
+use Rattle.std.proofs.lemmas.Result.{err_from_is_err_and}
 use borrow.Author.Tests.{le-leb, lt-leb}
 use Rattle.rules.specs.Grid.{controls}
 use Rattle.rules.specs.Answers.{require, ◌then◌, short, accepted, outcome}
 use Rattle.rules.specs.Calls.{cells_check, lattice_check}
-use Rattle.rules.specs.LatticeFile.{lattice_file_length, write_lattice_check, write_lattice_call}
+use Rattle.rules.specs.LatticeFile.{row_start, lattice_file_length, write_lattice_check, write_lattice_call}
 use Rattle.rules.proofs.Laws.Checks.{then_none, then_some, call_refused, call_accepted}
 use Rattle.rules.proofs.Laws.Passed.{cells_passed}
 use Rattle.lattice_writer.proofs.write_lattice.Goals as goal
@@ -34,58 +35,48 @@ module _ (c : Else-output-row_start) where
 
   room : lattice_file_length c.args.m c.args.n ≤ length c.args.output.now
   unfolding lattice_file_length
-  room = omega arith
+  room = omega (arith, c.row_start.ensures.0 ∙ ap (row_start c.args.m) c.rows.ensures)
 
   judged : write_lattice_check c.args.m c.args.n c.args.lattice.now c.args.output.now ≡ lattice_check c.args.m c.args.n c.args.lattice.now
-  judged = last _ _ c.in_default.ensures _ _ stored room
+  judged = last _ _ c.in_ok-cells.ensures _ _ stored room
 
 -- ---- the goals
 
-pub returns-in-Refused : goal.returns-in-Refused
+pub returns-in_err-cells : goal.returns-in_err-cells
 unfolding write_lattice_check write_lattice_call
-returns-in-Refused c = call_refused _ _ _ _ _ (then_some _ _ (sym c.in-Refused.ensures))
+returns-in_err-cells c =
+    let p = err_from_is_err_and c.from_residual.result c.from_residual.ensures.1 in
+    rw (p.1, p.2) (call_refused _ _ _ _ _ (then_some _ _ (sym c.in_err-cells.ensures)))
 
-pub count-requires : goal.count-requires
-count-requires c = bounds _ _ c.in_default.ensures
+pub invariant_of-cells : goal.invariant_of-cells
+invariant_of-cells c = record { few = bounds _ _ c.in_ok-cells.ensures }
 
-pub returns-then-lattice-count : goal.returns-then-lattice-count
+pub returns-then-lattice-controls : goal.returns-then-lattice-controls
 unfolding write_lattice_call require ◌then◌
-returns-then-lattice-count c =
+returns-then-lattice-controls c =
     let a = c.args in
-    call_refused _ _ _ _ _ (rest a.m a.n c.in_default.ensures a.lattice.now a.output.now ∙ rw (lt-leb (controls a.m a.n) (length a.lattice.now) (omega arith)))
-
-pub overflow_add-n : goal.overflow_add-n
-overflow_add-n c = omega (arith, bounds _ _ c.in_default.ensures)
-
-pub row_start-requires : goal.row_start-requires
-row_start-requires c = let b = bounds _ _ c.in_default.ensures in (b.0, omega (arith, b.1))
+    call_refused _ _ _ _ _ (rest a.m a.n c.in_ok-cells.ensures a.lattice.now a.output.now ∙ rw (lt-leb (controls a.m a.n) (length a.lattice.now) (omega arith)))
 
 pub returns-then-output-row_start : goal.returns-then-output-row_start
 unfolding write_lattice_call require ◌then◌ lattice_file_length
 returns-then-output-row_start c =
     let a = c.args in
+    let end = c.row_start.ensures.0 ∙ ap (row_start a.m) c.rows.ensures in
     call_refused _ _ _ _ _
-    (rest a.m a.n c.in_default.ensures a.lattice.now a.output.now
-    ∙ rw (le-leb (controls a.m a.n) (length a.lattice.now) (omega arith), lt-leb (lattice_file_length a.m a.n) (length a.output.now) (omega arith)))
+    (rest a.m a.n c.in_ok-cells.ensures a.lattice.now a.output.now
+    ∙ rw (le-leb (controls a.m a.n) (length a.lattice.now) (omega arith), lt-leb (lattice_file_length a.m a.n) (length a.output.now) (omega (arith, end))))
 
-pub lattice-requires : goal.lattice-requires
-lattice-requires c =
-    let b = bounds _ _ c.in_default.ensures in
-    (b.0, b.1, stored (goal.at.lattice-requires c).Else-output-row_start)
-
-pub returns-in-Refused-lattice : goal.returns-in-Refused-lattice
+pub returns-in_err-lattice : goal.returns-in_err-lattice
 unfolding write_lattice_call
-returns-in-Refused-lattice c =
-    call_refused _ _ _ _ _ (judged (goal.at.returns-in-Refused-lattice c).Else-output-row_start ∙ sym c.in-Refused-lattice.ensures)
+returns-in_err-lattice c =
+    let p = err_from_is_err_and c.from_residual-in_err-lattice.result c.from_residual-in_err-lattice.ensures.1 in
+    rw (p.1, p.2) (call_refused _ _ _ _ _ (judged (goal.at.returns-in_err-lattice c).Else-output-row_start ∙ sym c.in_err-lattice.ensures))
 
 pub put_lattice-requires : goal.put_lattice-requires
-put_lattice-requires c =
-    let b = bounds _ _ c.in_default.ensures in
-    let p = (goal.at.put_lattice-requires c).Else-output-row_start in
-    (b.0, b.1, stored p, room p)
+put_lattice-requires c = let p = (goal.at.put_lattice-requires c).Else-output-row_start in (stored p, room p)
 
 pub returns : goal.returns
 unfolding write_lattice_call
 returns c =
     ap₂ outcome (ap accepted c.put_lattice.ensures.bytes_written) c.put_lattice.ensures.output_after
-    ∙ call_accepted _ _ _ _ (judged (goal.at.returns c).Else-output-row_start ∙ sym c.in_default-lattice.ensures)
+    ∙ call_accepted _ _ _ _ (judged (goal.at.returns c).Else-output-row_start ∙ sym c.in_ok-lattice.ensures)

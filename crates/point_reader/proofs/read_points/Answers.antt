@@ -1,6 +1,7 @@
 -- A refusal, the file's or that a slice is short, leaves the four slices; an accepted file is copied to them.
-use Rattle.std.proofs.Common.{◌≡◌, sym, ap, ◌∙◌, false, ◌&&◌, List, ℕ, ◌≤◌, ℤ, leb, eqb→eq, length, arith}
+use Rattle.std.proofs.Common.{◌⊎◌, inl, inr, ◌<◌, ◌≡◌, refl, sym, ap, ◌∙◌, false, ◌&&◌, List, ℕ, ◌≤◌, ℤ, leb, eqb→eq, length, arith}
 use Rattle.std.proofs.Math.Option.{none, some}
+use Rattle.std.proofs.lemmas.Result.{err_from_is_err_and}
 use borrow.Author.Tests.{le-leb, lt-leb}
 use Rattle.algebra.specs.Table.{tabulate, over}
 use Rattle.rules.specs.Fit.{Survey, survey}
@@ -8,9 +9,9 @@ use Rattle.rules.specs.Answers.{Refusal, require, ◌then◌, short, Answer, acc
 use Rattle.rules.specs.PointFile.{Header, file_points, kind_of, file_start, file_x, file_y, file_z, file_q, file_survey, point_file_check, read_points_check, over_lists, read_points_call}
 use Rattle.rules.proofs.Laws.Checks.{required, then_rest, answer_none, answer_value, answer_refused, call_refused, call_accepted}
 use Rattle.point_records.specs.declared.Kind.{Kind}
-use Rattle.point_records.specs.Read.{told, header, ruled, Held}
+use Rattle.point_records.specs.Read.{header, ruled, Held}
 use Rattle.point_reader.proofs.read_points.Goals as goal
-use Rattle.point_reader.proofs.read_points.Goals.{In-Header}
+use Rattle.point_reader.proofs.read_points.Goals.{In_ok-header}
 
 -- a file that is accepted with the header a
 module _ (file : List ℕ) (a : Header) (told : accepted a ≡ answer (point_file_check file) (header file)) where
@@ -26,6 +27,15 @@ module _ (file : List ℕ) (a : Header) (told : accepted a ≡ answer (point_fil
   held is =
       let ends : length file ≡ file_start file (file_points file) = eqb→eq _ _ (required _ _ (then_rest _ _ (then_rest _ _ passed))) in
       record { alike = is; complete = rw (← count) (omega arith) }
+
+-- the tests of the four slices' room, in their order
+module _ (p : ℕ) {x y z q : ℕ} where
+  too_short : (x < p) ⊎ ((p ≤ x) × (y < p)) ⊎ ((p ≤ x) × (p ≤ y) × (z < p)) ⊎ ((p ≤ x) × (p ≤ y) × (p ≤ z) × (q < p))
+      → (leb p x && leb p y && leb p z && leb p q) ≡ false
+  too_short (inl a) = simp (lt-leb _ _ a)
+  too_short (inr (inl h)) = simp (le-leb _ _ h.0, lt-leb _ _ h.1)
+  too_short (inr (inr (inl h))) = simp (le-leb _ _ h.0, le-leb _ _ h.1, lt-leb _ _ h.2)
+  too_short (inr (inr (inr h))) = simp (le-leb _ _ h.0, le-leb _ _ h.1, le-leb _ _ h.2, lt-leb _ _ h.3)
 
 module _ (file : List ℕ) (lent : Survey) where
   refusal : (r : Refusal) → read_points_check file lent ≡ some r → outcome (refused r) lent ≡ read_points_call file lent
@@ -59,45 +69,23 @@ module _ (file : List ℕ) (lent : Survey) where
         rw (ex, ey, ez, eq, ← n, ← whole) (call_accepted _ _ _ lent fine)
 
 -- the four slices as they were lent
-abbrev given : In-Header → Survey
+abbrev given : In_ok-header → Survey
 given c = let a = c.args in survey a.xs.now a.ys.now a.zs.now a.qs.now
 
-pub returns-in_default : goal.returns-in_default
-returns-in_default c =
+pub returns-in_err-header : goal.returns-in_err-header
+returns-in_err-header c =
     let a = c.args in
-    at_file _ (survey a.xs.now a.ys.now a.zs.now a.qs.now) _ c.judge-read.ensures (ap told c.in_default.is)
+    let p = err_from_is_err_and c.from_residual.result c.from_residual.ensures.1 in
+    rw (p.1, p.2) (at_file _ (survey a.xs.now a.ys.now a.zs.now a.qs.now) _ c.in_err-header.ensures refl)
 
 pub returns-then-xs-p : goal.returns-then-xs-p
-returns-then-xs-p c = at_length _ (given (goal.at.returns-then-xs-p c).In-Header) _ c.in-Header.ensures (simp (lt-leb _ _ c.if-xs-p.true))
+returns-then-xs-p c = at_length _ (given (goal.at.returns-then-xs-p c).In_ok-header) _ c.in_ok-header.ensures (too_short _ c.then-xs-p.either)
 
-pub returns-then-ys-p : goal.returns-then-ys-p
-returns-then-ys-p c =
-    at_length _ (given (goal.at.returns-then-ys-p c).In-Header) _ c.in-Header.ensures (simp (le-leb _ _ c.if-xs-p.false, lt-leb _ _ c.if-ys-p.true))
-
-pub returns-then-zs-p : goal.returns-then-zs-p
-returns-then-zs-p c =
-    at_length _ (given (goal.at.returns-then-zs-p c).In-Header) _ c.in-Header.ensures
-    (simp (le-leb _ _ c.if-xs-p.false, le-leb _ _ c.if-ys-p.false, lt-leb _ _ c.if-zs-p.true))
-
-pub returns-then-qs-p : goal.returns-then-qs-p
-returns-then-qs-p c =
-    at_length _ (given (goal.at.returns-then-qs-p c).In-Header) _ c.in-Header.ensures
-    (simp (le-leb _ _ c.if-xs-p.false, le-leb _ _ c.if-ys-p.false, le-leb _ _ c.if-zs-p.false, lt-leb _ _ c.if-qs-p.true))
-
-pub copy_positions-requires : goal.copy_positions-requires
-copy_positions-requires c = (omega arith, held _ _ c.in-Header.ensures c.kind_of-kind.ensures, omega arith)
-
-pub copy_positions-requires-2 : goal.copy_positions-requires-2
-copy_positions-requires-2 c = (omega arith, held _ _ c.in-Header.ensures c.kind_of-kind.ensures, omega arith)
-
-pub copy_heights-requires : goal.copy_heights-requires
-copy_heights-requires c = (held _ _ c.in-Header.ensures c.kind_of-kind.ensures, omega arith)
-
-pub copy_confidences-requires : goal.copy_confidences-requires
-copy_confidences-requires c = (held _ _ c.in-Header.ensures c.kind_of-kind.ensures, omega arith)
+pub copy-requires : goal.copy-requires
+copy-requires c = (held _ _ c.in_ok-header.ensures c.kind_of.ensures, omega arith, omega arith, omega arith, omega arith)
 
 pub returns : goal.returns
-unfolding file_x file_y
 returns c =
-    copied _ (given (goal.at.returns c).In-Header) _ c.in-Header.ensures c.if-xs-p.false c.if-ys-p.false c.if-zs-p.false c.if-qs-p.false
-    c.copy_positions.ensures c.copy_positions-2.ensures c.copy_heights.ensures c.copy_confidences.ensures
+    let new = c.copy.ensures in
+    copied _ (given (goal.at.returns c).In_ok-header) _ c.in_ok-header.ensures c.if-xs-p.false c.if-ys-p.false c.if-zs-p.false c.if-qs-p.false
+    new.x new.y new.z new.q

@@ -1,6 +1,7 @@
 -- Once the head's record stands, each field is a byte of the file, and each refusal is decided by the test that led to it.
 use Rattle.std.proofs.Common.{◌≡◌, refl, sym, List, [], ◌∷◌, ℕ, ◌≤◌, leb, eqb, length, get_or, arith}
 use Rattle.std.proofs.Math.Option.{none}
+use Rattle.std.proofs.lemmas.Result.{err_from_is_err_and}
 use borrow.Author.Tests.{le-leb, lt-leb, eq-eqb, ne_eqb}
 use Rattle.rules.specs.Grid.{within}
 use Rattle.rules.specs.Answers.{require, ◌then◌, field}
@@ -30,41 +31,47 @@ module _ (file : List ℕ) (e : none ≡ record_check (0x50 ∷ 0x48 ∷ []) fil
   unfolding PH
   complete = record_fits PH refl file 0 8 (sym e)
 
-pub returns-in-Refused : goal.returns-in-Refused
+pub returns-in_err-record-clause-checked : goal.returns-in_err-record-clause-checked
 unfolding point_head_check PH ◌then◌
-returns-in-Refused c = rw (← c.record.ensures, c.in-Refused.is)
+returns-in_err-record-clause-checked c =
+    let p = err_from_is_err_and c.from_residual.result c.from_residual.ensures.1 in
+    rw (p.1, p.2, ← c.in_err-record.ensures)
 
 pub bounds-file-2 : goal.bounds-file-2
-bounds-file-2 c = omega (arith, complete _ c.in_default.ensures)
-
-pub returns-then-not-within : goal.returns-then-not-within
-unfolding require ◌then◌
-returns-then-not-within c = rw (fields _ (stands _ c.in_default.ensures), sym c.if-not-within.ensures)
+bounds-file-2 c = omega (arith, complete _ c.in_ok-record.ensures)
 
 pub bounds-file-3 : goal.bounds-file-3
-bounds-file-3 c = omega (arith, complete _ c.in_default.ensures)
-
-pub returns-then-not-within-2 : goal.returns-then-not-within-2
-unfolding require ◌then◌
-returns-then-not-within-2 c = rw (fields _ (stands _ c.in_default.ensures), sym c.if-not-within.ensures, sym c.if-not-within-2.ensures)
+bounds-file-3 c = omega (arith, complete _ c.in_ok-record.ensures)
 
 pub bounds-file-4 : goal.bounds-file-4
-bounds-file-4 c = omega (arith, complete _ c.in_default.ensures)
+bounds-file-4 c = omega (arith, complete _ c.in_ok-record.ensures)
 
-pub returns-then-file-gt5 : goal.returns-then-file-gt5
+pub returns-then-not-within-clause-checked : goal.returns-then-not-within-clause-checked
 unfolding require ◌then◌
-returns-then-file-gt5 c =
-    rw (fields _ (stands _ c.in_default.ensures), sym c.if-not-within.ensures, sym c.if-not-within-2.ensures, lt-leb _ _ c.if-file-gt5.true)
+returns-then-not-within-clause-checked c = rw (fields _ (stands _ c.in_ok-record.ensures), sym c.if-not-within.ensures)
+
+pub returns-then-not-within-2-clause-checked : goal.returns-then-not-within-2-clause-checked
+unfolding require ◌then◌
+returns-then-not-within-2-clause-checked c = rw (fields _ (stands _ c.in_ok-record.ensures), sym c.if-not-within.ensures, sym c.if-not-within-2.ensures)
+
+pub returns-then-shape-gt5-clause-checked : goal.returns-then-shape-gt5-clause-checked
+unfolding require ◌then◌
+returns-then-shape-gt5-clause-checked c =
+    rw (fields _ (stands _ c.in_ok-record.ensures), sym c.if-not-within.ensures, sym c.if-not-within-2.ensures, lt-leb _ _ c.if-shape-gt5.true)
 
 pub bounds-file-5 : goal.bounds-file-5
-bounds-file-5 c = omega (arith, complete _ c.in_default.ensures)
+bounds-file-5 c = omega (arith, complete _ c.in_ok-record.ensures)
 
-pub returns-then-file-ne0 : goal.returns-then-file-ne0
+pub returns-then-file-ne0-clause-checked : goal.returns-then-file-ne0-clause-checked
 unfolding require ◌then◌
-returns-then-file-ne0 c =
-    rw (fields _ (stands _ c.in_default.ensures), sym c.if-not-within.ensures, sym c.if-not-within-2.ensures, le-leb _ _ c.if-file-gt5.false, ne_eqb _ _ c.if-file-ne0.true)
+returns-then-file-ne0-clause-checked c =
+    rw (fields _ (stands _ c.in_ok-record.ensures), sym c.if-not-within.ensures, sym c.if-not-within-2.ensures, le-leb _ _ c.if-shape-gt5.false, ne_eqb _ _ c.if-file-ne0.true)
 
-pub returns : goal.returns
+pub returns-clause-checked : goal.returns-clause-checked
 unfolding require ◌then◌
-returns c =
-    rw (fields _ (stands _ c.in_default.ensures), sym c.if-not-within.ensures, sym c.if-not-within-2.ensures, le-leb _ _ c.if-file-gt5.false, eq-eqb _ _ c.if-file-ne0.false)
+returns-clause-checked c =
+    rw (fields _ (stands _ c.in_ok-record.ensures), sym c.if-not-within.ensures, sym c.if-not-within-2.ensures, le-leb _ _ c.if-shape-gt5.false, eq-eqb _ _ c.if-file-ne0.false)
+
+pub returns-clause-read : goal.returns-clause-read
+unfolding file_shape
+returns-clause-read c = let file = c.args.file.now in rw (number_at_one file 2, number_at_one file 3, number_at_one file 4) refl

@@ -7,6 +7,6 @@ pub returns-then-marked : goal.returns-then-marked
 unfolding kind_of PQ
 returns-then-marked c = rw (sym c.marked.ensures ∙ c.if-marked.true)
 
-pub returns : goal.returns
+pub returns-else-marked : goal.returns-else-marked
 unfolding kind_of PQ
-returns c = rw (sym c.marked.ensures ∙ c.if-marked.false)
+returns-else-marked c = rw (sym c.marked.ensures ∙ c.if-marked.false)

@@ -3,10 +3,11 @@ use Rattle.std.proofs.Common.{◌≡◌, sym, ap, ap₂, ◌∙◌, List, ℕ, �
 use Rattle.std.specs.Int.Signed.{mag}
 use Rattle.algebra.specs.Table.{joined, laid, laid_after}
 use Rattle.machine.specs.Tests.{plain}
-use Rattle.rules.specs.Fit.{Survey, survey, point_at}
+use Rattle.rules.specs.Fit.{Survey, point_at}
 use Rattle.rules.specs.PointFile.{pq, point_record}
 use Rattle.rules.specs.Laws.PointFields.{record_of}
 use Rattle.rules.proofs.Laws.PointFields.{length_records}
+use Rattle.survey.specs.Survey.{survey_of}
 use Rattle.point_writer.proofs.put_points.Goals as goal
 
 -- one record more; v is the height as it is handed on
@@ -23,10 +24,10 @@ next s i d h is e₁ e₂ =
 
 pub loop-i-init : goal.loop-i-init
 unfolding joined laid
-loop-i-init c = (omega arith, sym (take-append-drop 8 _))
+loop-i-init c = sym (take-append-drop 8 _)
 
 pub loop-i-preserved : goal.loop-i-preserved
 loop-i-preserved c =
-    let a = c.args in
-    let fits : mag (get_or a.zs.now c.loop-i.i (pos 0)) < 2 ^ 63 = omega arith in
-    (omega arith, next (survey a.xs.now a.ys.now a.zs.now a.qs.now) c.loop-i.i _ (omega arith) (plain _ fits) c.loop-i.invariant.1 c.put_point.ensures)
+    let p = c.args.points.now in
+    let fits : mag (get_or p.zs.now c.loop-i.i (pos 0)) < 2 ^ 63 = omega arith in
+    next (survey_of p) c.loop-i.i _ (omega arith) (plain _ fits) c.loop-i.invariant c.put_point.ensures

@@ -2,7 +2,7 @@
 use Rattle.std.proofs.Common.{sym}
 use Rattle.rules.specs.PointFile.{last_number}
 use Rattle.point_records.specs.Records.{number_at_one}
-use Rattle.point_records.proofs.confidence.Goals as goal
+use Rattle.point_records.proofs.Kind.confidence.Goals as goal
 
 pub returns-in-Pt : goal.returns-in-Pt
 unfolding last_number

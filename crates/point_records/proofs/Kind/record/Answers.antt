@@ -1,6 +1,6 @@
 -- Each kind has its mark and its size.
 use Rattle.rules.specs.PointFile.{PT, PQ}
-use Rattle.point_records.proofs.record.Goals as goal
+use Rattle.point_records.proofs.Kind.record.Goals as goal
 
 pub returns-in-Pt : goal.returns-in-Pt
 unfolding PT
