@@ -34,6 +34,10 @@ module _ {n count i : ℕ} {f : ℕ → ℤ} {d l : List ℤ} (p : Tested n coun
       none_out = none_out_more i (tabulate count f) p.none_out (subst T (sym (not-false b t) ∙ test) tt);
     }
 
+    -- the same where the values are laid from the start on
+    pub passed_front : n ≡ 0 → not b ≡ false → Tested n count (i + 1) f d (set l i x)
+    passed_front e t = let place : n + i ≡ i = omega arith in rw place at (passed t)
+
     pub refused : not b ≡ true → Written false n count (tabulate count f) d l
     refused t = record { found = λ r. none_out_at count i (tabulate count f) p.none_out h (sym test ∙ not-true b t) (λ i. r); is = λ t. absurd t; free = free }
 

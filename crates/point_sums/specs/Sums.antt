@@ -8,6 +8,10 @@ use Rattle.point_sums.specs.declared.Sums.{Sums}
 abbrev pub sums_of : Sums → rule.Sums
 sums_of s = record { first = s.first; second = s.second }
 
+-- the pair at place k of a list of first sums and a list of second sums
+abbrev pub pair_of : List Float → List Float → ℕ → rule.Sums
+pair_of first second k = record { first = get_or first k nan; second = get_or second k nan }
+
 -- ---- sums in f64 scratch, for count control values: the first sum of the one at place q stands at q, the second at count + q. Where a list has no
 -- entry, nan stands for one, as in the machine's reading.
 

@@ -19,7 +19,7 @@ fn weigh(odd: usize, a: i64, b: i64, c: i64) -> i64
     MASKS[odd][0] * a + MASKS[odd][1] * b + MASKS[odd][2] * c
 }
 
-// The same, with the parity tested first: the table is then read at a constant place, and a loop makes the test once.
+// The same. It stands beside `weigh` for speed: with the parity tested first the table is read at a constant place, and a loop makes the test once.
 fn masked(odd: usize, a: i64, b: i64, c: i64) -> i64
     requires { (odd < 2) × (nat_abs a ≤ 32_000_000_000) × (nat_abs b ≤ 32_000_000_000) × (nat_abs c ≤ 32_000_000_000) }
     ensures { result ≡ rule.masked odd (λ i. get_or (a ∷ b ∷ c ∷ []) i (pos 0)) 0 }
@@ -41,10 +41,8 @@ pub fn blend(m: usize, lattice: &[i64], t: usize, sums: &mut [i64; 259])
     let a = t / 2 * w;
     let b = a + w;
     let c = b + odd * w;
-    let mut s = 0;
-    while s < w {
+    for s in 0..w {
         sums[s] = masked(odd, lattice[a + s], lattice[b + s], lattice[c + s]);
-        s += 1;
     }
 }
 
@@ -61,11 +59,9 @@ pub fn refine_row(m: usize, sums: &[i64; 259], row: &mut [i64])
     requires { (m ≤ 256) × (2 * m + 3 ≤ length row.old) × ((s : ℕ) → s < m + 3 → nat_abs (get_or sums.now s (pos 0)) ≤ 32_000_000_000) }
     ensures { row.new ≡ over (tabulate (2 * m + 3) (λ s. near (rule.finer (λ q. get_or sums.now q (pos 0)) s) 64)) row.old }
 {
-    let mut c = 0;
-    while c <= m {
+    for c in 0..m + 1 {
         row[2 * c] = refined_at(0, sums, c);
         row[2 * c + 1] = refined_at(1, sums, c);
-        c += 1;
     }
     row[2 * m + 2] = refined_at(0, sums, m + 1);
 }

@@ -33,14 +33,8 @@ pub fn axis(e: u32, a: usize) -> [f64; 4]
 pub fn block(b: [f64; 4], c: [f64; 4]) -> [[f64; 4]; 4]
     ensures { result ≡ block_of b c }
 {
-    let b0 = b[0];
-    let b1 = b[1];
-    let b2 = b[2];
-    let b3 = b[3];
-    let c0 = c[0];
-    let c1 = c[1];
-    let c2 = c[2];
-    let c3 = c[3];
+    let [b0, b1, b2, b3] = b;
+    let [c0, c1, c2, c3] = c;
     [
         [b0 * c0, b0 * c1, b0 * c2, b0 * c3],
         [b1 * c0, b1 * c1, b1 * c2, b1 * c3],
@@ -54,11 +48,11 @@ pub fn squares(w: [[f64; 4]; 4]) -> f64
     ensures { result ≡ rule.squares (weight_at w) }
 {
     let mut s = 0.0;
-    let mut i = 0;
-    while i < 16 {
-        let v = w[i / 4][i % 4];
-        s = s + v * v;
-        i += 1;
+    for k in 0..4 {
+        for l in 0..4 {
+            let v = w[k][l];
+            s += v * v;
+        }
     }
     s
 }

@@ -4,10 +4,10 @@ use Rattle.rules.specs.Level as rule
 use Rattle.level_values.specs.Values.{coefficient_of}
 use Rattle.level_values.proofs.settle.Goals as goal
 
-pub returns-in-Fitted : goal.returns-in-Fitted
+pub returns-in-Some : goal.returns-in-Some
 unfolding rule.settled
-returns-in-Fitted c = c.near_float.ensures ∙ sym (ap (λ v. rule.settled (coefficient_of v)) c.in-Fitted.is)
+returns-in-Some c = c.near_float.ensures ∙ sym (ap (λ v. rule.settled (coefficient_of v)) c.in-Some.is)
 
-pub returns-in-Untouched : goal.returns-in-Untouched
+pub returns-in-None : goal.returns-in-None
 unfolding rule.settled
-returns-in-Untouched c = sym (ap (λ v. rule.settled (coefficient_of v)) c.in-Untouched.is)
+returns-in-None c = sym (ap (λ v. rule.settled (coefficient_of v)) c.in-None.is)

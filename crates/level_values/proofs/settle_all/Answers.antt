@@ -20,23 +20,21 @@ module _ {count : ℕ} {sums : List Float} {before : List ℤ} {q : ℕ} {level 
   unfolding answer.first_of answer.require present or_zero
   one_more l e =
       record {
-        most = omega (arith, p.most);
         kept = simp length-set p.kept;
         none_refused = λ r. rw (add-one q) (then_none (answer.first_of q (check count sums r)) (check count sums r q) (p.none_refused r) ∙ rw e);
         written = fill_store q (value count sums) before (pos 0) (omega arith) p.written (sym (ap or_zero e));
       }
 
-  free : Free 0 count before level
-  free = rw p.written (free_over count (tabulate q (value count sums)) before (rw (length_tabulate q (value count sums)) p.most) room)
+  free : q ≤ count → Free 0 count before level
+  free most = rw p.written (free_over count (tabulate q (value count sums)) before (rw (length_tabulate q (value count sums)) most) room)
 
   refused : q < count → settled_at count sums q ≡ none → SettledAll count sums false before level
   unfolding answer.require present
-  refused l e = record { found = λ r. first_of_at count q (check count sums r) r (p.none_refused r) l (rw e); is = λ t. absurd t; free = free }
+  refused l e = record { found = λ r. first_of_at count q (check count sums r) r (p.none_refused r) l (rw e); is = λ t. absurd t; free = free (omega arith) }
 
-  all_passed : count ≤ q → SettledAll count sums true before level
-  all_passed l =
-      let e : q ≡ count = omega (arith, p.most) in
-      record { found = λ r. subst (λ q. answer.first_of q (check count sums r) ≡ none) e (p.none_refused r); is = λ t. subst (λ q. level ≡ over (tabulate q (value count sums)) before) e p.written; free = free }
+  all_passed : q ≡ count → SettledAll count sums true before level
+  all_passed e =
+      record { found = λ r. subst (λ q. answer.first_of q (check count sums r) ≡ none) e (p.none_refused r); is = λ t. subst (λ q. level ≡ over (tabulate q (value count sums)) before) e p.written; free = free (omega arith) }
 
 -- what the pair at q settles to
 settled_is : (c : After-settle) → settled_value c.settle.result ≡ settled_at c.args.count c.args.sums.now c.loop-q.q
@@ -45,17 +43,17 @@ settled_is c = c.settle.ensures ∙ ap rule.settled c.quotient_of.ensures
 
 pub loop-q-init : goal.loop-q-init
 unfolding tabulate answer.first_of
-loop-q-init c = record { most = omega arith; kept = refl; none_refused = λ r. refl; written = sym (over_none _) }
+loop-q-init c = record { kept = refl; none_refused = λ r. refl; written = sym (over_none _) }
 
-pub returns-in-Outside : goal.returns-in-Outside
-returns-in-Outside c =
-    let is = settled_is ((goal.at.returns-in-Outside c).After-settle) in
-    refused c.loop-q.invariant c.requires.1 (omega arith) (sym is ∙ ap settled_value c.in-Outside.is)
+pub returns-in-None : goal.returns-in-None
+returns-in-None c =
+    let is = settled_is ((goal.at.returns-in-None c).After-settle) in
+    refused c.loop-q.invariant c.requires.1 (omega arith) (sym is ∙ ap settled_value c.in-None.is)
 
 pub loop-q-preserved : goal.loop-q-preserved
 loop-q-preserved c =
     let is = settled_is ((goal.at.loop-q-preserved c).After-settle) in
-    rw (plain c.in-Value.z (omega arith)) (one_more c.loop-q.invariant c.requires.1 (omega arith) (sym is ∙ ap settled_value c.in-Value.is))
+    rw (plain c.in-Some.z (omega arith)) (one_more c.loop-q.invariant c.requires.1 (omega arith) (sym is ∙ ap settled_value c.in-Some.is))
 
 pub returns : goal.returns
 returns c = all_passed c.loop-q.invariant c.requires.1 (omega arith)

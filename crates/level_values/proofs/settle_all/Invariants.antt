@@ -1,5 +1,5 @@
 -- No value before q is refused, and those values stand in the level.
-use Rattle.std.proofs.Common.{◌≡◌, ℕ, ◌-◌, ◌≤◌, List, length, ℤ}
+use Rattle.std.proofs.Common.{◌≡◌, ℕ, List, length, ℤ}
 use Rattle.std.specs.Prelude.{Float}
 use Rattle.std.proofs.Math.Option.{none}
 use Rattle.algebra.specs.Table.{tabulate, over}
@@ -18,13 +18,9 @@ module _ (count : ℕ) (sums : List Float) where
 
 -- no value before q is refused, and they stand in the level
 pub record Passed (count : ℕ) (sums : List Float) (before : List ℤ) (q : ℕ) (level : List ℤ) : Type 0 where
-  pub most : q ≤ count
   pub kept : length level ≡ length before
   pub none_refused : (r : answer.Refusal) → answer.first_of q (check count sums r) ≡ none
   pub written : level ≡ over (tabulate q (value count sums)) before
 
 abbrev pub invariant-loop-q : goal.invariant-loop-q
 invariant-loop-q l = Passed l.count l.sums l.initial.level l.q l.level
-
-abbrev pub decreases-loop-q : goal.decreases-loop-q
-decreases-loop-q l = l.count - l.q

@@ -1,4 +1,4 @@
-use Rattle.std.proofs.Common.{◌≡◌, ℕ, ◌+◌, ◌*◌, ◌^◌, ◌<◌, List, get_or, ℤ, pos, refl, sym, ap, ◌∙◌, arith, length-set, w64, to_z, of_z}
+use Rattle.std.proofs.Common.{◌≡◌, ℕ, ◌+◌, ◌*◌, ◌^◌, ◌<◌, List, get_or, ℤ, pos, refl, sym, ap, ◌∙◌, arith, w64, to_z, of_z}
 use Rattle.std.specs.Int.Signed.{mag}
 use Rattle.algebra.specs.Table.{tabulate, over, over_none, fill_store}
 use Rattle.machine.specs.Tests.{plain}
@@ -15,7 +15,7 @@ placed sums odd c q {v} h e fits is = plain v fits ∙ is ∙ rw e (ap (λ v. ne
 
 pub loop-c-init : goal.loop-c-init
 unfolding tabulate
-loop-c-init c = (omega arith, refl, sym (over_none c.args.row.now))
+loop-c-init c = sym (over_none c.args.row.now)
 
 pub loop-c-preserved : goal.loop-c-preserved
 loop-c-preserved c =
@@ -26,8 +26,8 @@ loop-c-preserved c =
     let d = c.args.row.now in
     let even = placed sums 0 i (2 * i) (omega arith) (omega arith) c.refined_at.type_inv c.refined_at.ensures in
     let odd = placed sums 1 i (2 * i + 1) (omega arith) refl c.refined_at-in-loop-c.type_inv c.refined_at-in-loop-c.ensures in
-    let both = fill_store (2 * i + 1) f d (pos 0) (omega arith) (fill_store (2 * i) f d (pos 0) (omega arith) l.invariant.2 even) odd in
-    (omega arith, simp length-set l.invariant.1, both ∙ ap (λ k. over (tabulate k f) d) (omega arith))
+    let both = fill_store (2 * i + 1) f d (pos 0) (omega arith) (fill_store (2 * i) f d (pos 0) (omega arith) l.invariant even) odd in
+    both ∙ ap (λ k. over (tabulate k f) d) (omega arith)
 
 pub returns : goal.returns
 returns c =
@@ -38,4 +38,4 @@ returns c =
     let d = c.args.row.now in
     let e : 2 * l.c ≡ 2 * m + 2 = omega arith in
     let last = placed sums 0 (m + 1) (2 * m + 2) (omega arith) (omega arith) c.refined_at-2.type_inv c.refined_at-2.ensures in
-    fill_store (2 * m + 2) f d (pos 0) (omega arith) (l.invariant.2 ∙ ap (λ k. over (tabulate k f) d) e) last ∙ ap (λ k. over (tabulate k f) d) (omega arith)
+    fill_store (2 * m + 2) f d (pos 0) (omega arith) (l.invariant ∙ ap (λ k. over (tabulate k f) d) e) last ∙ ap (λ k. over (tabulate k f) d) (omega arith)

@@ -1,5 +1,5 @@
--- The loop goes through the block with the second index the faster one, as the rule's four rows do.
-use Rattle.std.proofs.Common.{◌≡◌, ℕ, zero, suc, ◌-◌, ◌/◌, ◌%◌, ◌≤◌}
+-- The loops go through the block row by row, as the rule's four rows do.
+use Rattle.std.proofs.Common.{◌≡◌, ℕ, zero, suc, ◌+◌, ◌*◌, ◌/◌, ◌%◌}
 use Rattle.std.specs.Prelude.{Float}
 use Rattle.rules.specs.Level as rule
 use Rattle.rules.specs.Level.{◌⊕◌, ◌⊗◌}
@@ -11,8 +11,8 @@ unfoldable pub partial : (ℕ → ℕ → Float) → ℕ → Float
 partial w zero = rule.zero64
 partial w (suc n) = partial w n ⊕ w (n / 4) (n % 4) ⊗ w (n / 4) (n % 4)
 
-abbrev pub invariant-loop-i : goal.invariant-loop-i
-invariant-loop-i l = (l.i ≤ 16) × (l.s ≡ partial (weight_at l.w) l.i)
+abbrev pub invariant-loop-k : goal.invariant-loop-k
+invariant-loop-k l = l.s ≡ partial (weight_at l.w) (4 * l.k)
 
-abbrev pub decreases-loop-i : goal.decreases-loop-i
-decreases-loop-i l = 16 - l.i
+abbrev pub invariant-loop-l : goal.invariant-loop-l
+invariant-loop-l l = l.s ≡ partial (weight_at l.w) (4 * l.k + l.l)
