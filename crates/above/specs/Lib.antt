@@ -1,3 +1,2 @@
 pub mod Inspectable
-pub mod Told
 pub mod Promises

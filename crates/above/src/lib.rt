@@ -3,114 +3,83 @@
 
 ghost use Rattle.std.specs.Prelude.{◌≡◌, ◌^◌, ◌<◌};
 ghost use Rattle.rules.specs.Above as rule;
-ghost use Rattle.rules.specs.Calls as calls;
 ghost use Rattle.checks.specs.Ready.{Tells};
+ghost use Rattle.answers.specs.Told.{told};
+ghost use Rattle.nodes.specs.Nodes.{nodes_of, nodes_asked};
 ghost use Rattle.above.specs.Inspectable.{Inspectable};
-ghost use Rattle.above.specs.Told.{told};
 
-use answers::{Refusal, Verdict};
-use checks::Readiness;
-
-// What is told of a rectangle's ground: yes or no, or the first refusal.
-#[derive(Drop)]
-pub enum Inspected {
-    Yes,
-    No,
-    Refused(Refusal),
-}
+use answers::Refusal;
+use grid::Grid;
+use nodes::Nodes;
+use strips::{Columns, Strip, UNTAPPED};
 
 // The answer for a lattice, nodes and a stage that are known to be in range and inside.
-fn above_within(
-    m: usize,
-    n: usize,
-    e: u32,
-    lattice: &[i64],
-    x0: usize,
-    y0: usize,
-    step: usize,
-    columns: usize,
-    rows: usize,
-    stage: i64,
-) -> bool
-    requires { (0 < step) × Inspectable m n e lattice.now (calls.nodes_at x0 y0 step columns rows) stage }
-    ensures { result ≡ rule.any_above m n (2 ^ e) lattice.now (calls.nodes_at x0 y0 step columns rows) stage }
+fn above_within(grid: Grid, lattice: &[i64], nodes: Nodes, stage: i64) -> bool
+    requires { (0 < nodes.step) × Inspectable grid.cells.m grid.cells.n grid.e lattice.now (nodes_of nodes) stage }
+    ensures { result ≡ rule.any_above grid.cells.m grid.cells.n (2 ^ grid.e) lattice.now (nodes_of nodes) stage }
 {
-    if rows == 0 {
+    if nodes.rows == 0 {
         return false;
     }
-    let most = roundings::most_under(stage, e);
-    let mut column = 0;
-    while column < columns {
-        let s = strips::strip_from(m, n, e, x0, y0, step, columns, column);
-        if bands::strip_above(s, rows, lattice, stage, most) {
+    let most = roundings::most_under(stage, grid.e);
+    let mut cells = [0; 64];
+    let mut taps = [UNTAPPED; 64];
+    for column in (0..nodes.columns).step_by(64) {
+        let strip = Strip::from_column(grid, nodes, column);
+        strips::tap(strip, &mut cells, &mut taps);
+        let columns = Columns {
+            strip,
+            lattice,
+            cells: &cells,
+            taps: &taps,
+        };
+        if bands::strip_above(&columns, stage, most) {
             return true;
         }
-        column += s.w;
     }
     false
 }
 
-// The checks in their order: 1, 2, 8, 4, 6 of the stage, 6 of the lattice, and 5 for all nodes before any is worked out.
+// The checks in their order: 1, 2, 8, 4, 6 of the stage, 6 of the lattice, and 5 for all nodes before any is worked out. Those of `raster` have 4 and 6 in
+// their own way between the same three lines: a function of them both would take what stands between as a closure, and be longer.
 fn inspectable(
     m: usize,
     n: usize,
     unit: usize,
     lattice: &[i64],
-    x0: usize,
-    y0: usize,
-    step: usize,
-    columns: usize,
-    rows: usize,
+    nodes: Nodes,
     stage: i64,
-) -> Readiness
-    requires { 0 < step }
-    ensures { Tells (rule.above_check m n unit lattice.now (calls.nodes_at x0 y0 step columns rows) stage) unit (λ e. Inspectable m n e lattice.now (calls.nodes_at x0 y0 step columns rows) stage) result }
+) -> Result<Grid, Refusal>
+    requires { 0 < nodes.step }
+    ensures { Tells (rule.above_check m n unit lattice.now (nodes_of nodes) stage) m n unit (λ e. Inspectable m n e lattice.now (nodes_of nodes) stage) result }
 {
-    let grid = checks::gridded(m, n, unit);
-    let Readiness::Of(_) = grid else {
-        return grid;
-    };
-    if let Verdict::Refused(r) = nodes::sizes(step, columns, rows) {
-        return Readiness::Refused(r);
-    }
-    if lattice.len() < (m + 3) * (n + 3) {
-        return Readiness::Refused(Refusal::Short);
+    let grid = checks::gridded(m, n, unit)?;
+    nodes.sizes()?;
+    if lattice.len() < grid.cells.controls() {
+        return Err(Refusal::Short);
     }
     if !range::in_range(stage) {
-        return Readiness::Refused(Refusal::Range(0));
+        return Err(Refusal::Range(0));
     }
-    if let Verdict::Refused(r) = checks::lattice(m, n, lattice) {
-        return Readiness::Refused(r);
-    }
-    if let Verdict::Refused(r) = nodes::positions(unit * m, unit * n, x0, y0, step, columns, rows) {
-        return Readiness::Refused(r);
-    }
-    grid
+    checks::lattice(grid.cells, lattice)?;
+    let unit = grid.unit();
+    nodes.positions(unit * grid.cells.m, unit * grid.cells.n)?;
+    Ok(grid)
 }
 
+// The step of the nodes may be 0, which stands for the default.
 pub fn any_above(
     m: usize,
     n: usize,
     unit: usize,
     lattice: &[i64],
-    x0: usize,
-    y0: usize,
-    step: usize,
-    columns: usize,
-    rows: usize,
+    nodes: Nodes,
     stage: i64,
-) -> Inspected
-    ensures { told result ≡ rule.above_answer m n unit lattice.now (calls.nodes x0 y0 step columns rows) stage }
+) -> Result<bool, Refusal>
+    ensures { told result ≡ rule.above_answer m n unit lattice.now (nodes_asked nodes) stage }
 {
     // put in first, as a raster does: nothing below knows the default
-    let by = nodes::step_of(step);
-    match inspectable(m, n, unit, lattice, x0, y0, by, columns, rows, stage) {
-        Readiness::Of(e) => {
-            if above_within(m, n, e, lattice, x0, y0, by, columns, rows, stage) {
-                return Inspected::Yes;
-            }
-            Inspected::No
-        }
-        Readiness::Refused(r) => Inspected::Refused(r),
-    }
+    let stepped = nodes.at_default();
+    let grid = inspectable(m, n, unit, lattice, stepped, stage)?;
+    Ok(above_within(grid, lattice, stepped, stage))
 }

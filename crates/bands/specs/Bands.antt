@@ -7,13 +7,13 @@ use Rattle.rules.specs.Surface.{denominator}
 use Rattle.basis.specs.declared.Basis.{Basis}
 use Rattle.below.specs.declared.Due.{Due}
 use Rattle.strips.specs.Strips.{Ringed, row_cell, node_sum, height_at}
-use Rattle.strips.specs.declared.Strip.{Strip}
+use Rattle.strips.specs.declared.piece.Strip.{Strip}
 
 -- ---- rows of nodes
 
 -- the first `rows` rows are on the grid
 pub record RowsInside (s : Strip) (rows : ℕ) : Type 0 where
-  pub inside : (j : ℕ) → j < rows → s.y0 + s.step * j ≤ 2 ^ s.e * s.n
+  pub inside : (j : ℕ) → j < rows → s.nodes.y0 + s.nodes.step * j ≤ 2 ^ s.grid.e * s.grid.cells.n
 
 -- rows `start` to `end` - 1 lie in cell row `cell`
 pub record Band (s : Strip) (cell start end : ℕ) : Type 0 where
@@ -67,5 +67,5 @@ SumsDecided b ring cell from to most answer = Decided (SumAbove b ring cell from
 -- whatever lattice the ring has the sums of, and whatever stage `most` stands for
 abbrev pub BandDecided : Strip → List ℤ → ℕ → Due → ℕ → ℕ → ℤ → Bool → Type 0
 BandDecided s ring cell due start end most answer =
-    (l : List ℤ) (stage : ℤ) → Ringed s l due.from due.to (cell + 4) (cell + 4) ring → Threshold stage s.e most
+    (l : List ℤ) (stage : ℤ) → Ringed s l due.from due.to (cell + 4) (cell + 4) ring → Threshold stage s.grid.e most
     → Decided (NodeAbove s l stage start end due.from due.to) (NodesBelow s l stage start end due.from due.to) answer

@@ -1,7 +1,7 @@
 -- What a raster promises beyond its equation with the rules. Where it is accepted, a height alone would be accepted at each node, and each is in range; there
 -- are as many as were asked for, in at most 8,193 columns and rows, and the slice holds them.
 -- Accepted or refused, at a given step it is the raster of the earlier default, when step 0 stood for 16; and of the negated lattice it has the negatives.
-use Rattle.std.specs.Prelude.{◌≡◌, ◌&&◌, List, ℕ, ◌*◌, ◌≤◌, ◌<◌, T, ℤ, pos, nat_abs, length, get_or}
+use Rattle.std.specs.Prelude.{◌≡◌, ◌&&◌, List, ℕ, ◌*◌, ◌≤◌, ◌<◌, T, ℤ, pos, nat_abs, length, get_or, Result}
 use Rattle.std.proofs.Math.Path.{ap}
 use Rattle.std.proofs.Common.{◌∙◌, arith, leb→le}
 use Rattle.std.proofs.Math.Option.{none}
@@ -17,8 +17,8 @@ use Rattle.rules.proofs.Laws.Raster.{raster_where, given_raster, given_default}
 use Rattle.rules.specs.Laws.Negation.{negated, Mirrored}
 use Rattle.rules.proofs.Laws.Negation.{raster_call_lem}
 use Rattle.heights.specs.Promises.{height_passed}
-use Rattle.answers.specs.CountTold.{told}
-use Rattle.answers.specs.declared.CountTold.{CountTold}
+use Rattle.answers.specs.Told.{told}
+use Rattle.answers.specs.declared.Refusal.{Refusal}
 
 module _ (m n U : ℕ) (l : List ℤ) (g : Nodes) (d : List ℤ) where
   -- what the checks have shown
@@ -65,7 +65,7 @@ module _ (m n U : ℕ) (l : List ℤ) (g : Nodes) (d : List ℤ) where
   height_at = node_height m n U l g
 
   -- an accepted raster of q nodes, and the slice that it leaves
-  module _ (r : CountTold) (after : List ℤ) (rules : outcome (told r) after ≡ raster_call m n U l g d) (q : ℕ) (is : told r ≡ accepted q) where
+  module _ (r : Result ℕ Refusal) (after : List ℤ) (rules : outcome (told r) after ≡ raster_call m n U l g d) (q : ℕ) (is : told r ≡ accepted q) where
     passed : raster_check m n U l g d ≡ none
     unfolding raster_call
     passed = call_unrefused _ _ _ d (told r) after rules q is
@@ -111,7 +111,7 @@ module _ (m n U : ℕ) (l : List ℤ) (x0 y0 across down : ℕ) (output : List �
   earlier = raster_where m n U l x0 y0 across down output 16
 
   -- a call at this step, and the slice that it leaves, accepted or refused
-  module _ (step : ℕ) (r : CountTold) (after : List ℤ) (rules : outcome (told r) after ≡ raster_call m n U l (nodes x0 y0 step across down) output) where
+  module _ (step : ℕ) (r : Result ℕ Refusal) (after : List ℤ) (rules : outcome (told r) after ≡ raster_call m n U l (nodes x0 y0 step across down) output) where
     pub as_earlier : 0 < step → outcome (told r) after ≡ earlier step
     as_earlier h = rules ∙ given_raster m n U l x0 y0 across down output default_step 16 step h
 
@@ -120,7 +120,7 @@ module _ (m n U : ℕ) (l : List ℤ) (x0 y0 across down : ℕ) (output : List �
     sixteen_for_zero is = rules ∙ rw is (given_default m n U l x0 y0 across down output 16 default_step (omega arith))
 
 -- of two calls that both were lent room, or both were not
-pub negated_ground : (m n U : ℕ) (l : List ℤ) (g : Nodes) (before after before' after' : List ℤ) (r r' : CountTold) → outcome (told r) after ≡ raster_call m n U l g before
+pub negated_ground : (m n U : ℕ) (l : List ℤ) (g : Nodes) (before after before' after' : List ℤ) (r r' : Result ℕ Refusal) → outcome (told r) after ≡ raster_call m n U l g before
     → outcome (told r') after' ≡ raster_call m n U (negated l) g before' → let count = g.across * g.down in leb count (length before') ≡ leb count (length before)
     → Mirrored count (outcome (told r) after) (outcome (told r') after')
 negated_ground m n U l g before after before' after' r r' rules rules' room = rw (rules, rules') (raster_call_lem m n l U g before before' room)

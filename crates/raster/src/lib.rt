@@ -6,96 +6,77 @@ ghost use Rattle.algebra.specs.Table.{tabulate, over};
 ghost use Rattle.rules.specs.Answers.{outcome};
 ghost use Rattle.rules.specs.Calls as calls;
 ghost use Rattle.checks.specs.Ready.{Tells};
-ghost use Rattle.answers.specs.CountTold.{told};
+ghost use Rattle.answers.specs.Told.{told};
+ghost use Rattle.nodes.specs.Nodes.{nodes_of, nodes_asked};
 ghost use Rattle.raster.specs.Samplable.{Samplable};
 
-use answers::{CountTold, Refusal, Verdict};
-use checks::Readiness;
+use answers::Refusal;
+use grid::Grid;
+use nodes::Nodes;
+use strips::{Columns, Strip, UNTAPPED};
 
 // The raster of a lattice and of nodes that are known to be in range and inside.
-fn raster_within(
-    m: usize,
-    n: usize,
-    e: u32,
-    lattice: &[i64],
-    x0: usize,
-    y0: usize,
-    step: usize,
-    columns: usize,
-    rows: usize,
-    output: &mut [i64],
-)
-    requires { Samplable m n e lattice.now (calls.nodes_at x0 y0 step columns rows) (length output.old) }
-    ensures { output.new ≡ over (tabulate (columns * rows) (calls.node_height m n (2 ^ e) lattice.now (calls.nodes_at x0 y0 step columns rows))) output.old }
+fn raster_within(grid: Grid, lattice: &[i64], nodes: Nodes, output: &mut [i64])
+    requires { Samplable grid.cells.m grid.cells.n grid.e lattice.now (nodes_of nodes) (length output.old) }
+    ensures { output.new ≡ over (tabulate (nodes.columns * nodes.rows) (calls.node_height grid.cells.m grid.cells.n (2 ^ grid.e) lattice.now (nodes_of nodes))) output.old }
 {
-    if rows == 0 {
+    if nodes.rows == 0 {
         return;
     }
-    let mut column = 0;
-    while column < columns {
-        let s = strips::strip_from(m, n, e, x0, y0, step, columns, column);
-        strips::whole_strip(s, rows, lattice, output);
-        column += s.w;
+    let mut cells = [0; 64];
+    let mut taps = [UNTAPPED; 64];
+    for column in (0..nodes.columns).step_by(64) {
+        let strip = Strip::from_column(grid, nodes, column);
+        strips::tap(strip, &mut cells, &mut taps);
+        let columns = Columns {
+            strip,
+            lattice,
+            cells: &cells,
+            taps: &taps,
+        };
+        strips::whole_strip(&columns, output);
     }
 }
 
-// The checks of a raster in document 01's order: 1, 2, 8, 4, 6 and 5. The output has room for so many nodes.
+// The checks of a raster in document 01's order: 1, 2, 8, 4, 6 and 5. The output has room for so many nodes. Those of `above` have 4 and 6 in their own
+// way between the same three lines: a function of them both would take what stands between as a closure, and be longer.
 fn samplable(
     m: usize,
     n: usize,
     unit: usize,
     lattice: &[i64],
-    x0: usize,
-    y0: usize,
-    step: usize,
-    columns: usize,
-    rows: usize,
+    nodes: Nodes,
     room: usize,
-) -> Readiness
-    requires { 0 < step }
-    ensures { (d : List ℤ) → length d ≡ room → Tells (calls.raster_check m n unit lattice.now (calls.nodes_at x0 y0 step columns rows) d) unit (λ e. Samplable m n e lattice.now (calls.nodes_at x0 y0 step columns rows) room) result }
+) -> Result<Grid, Refusal>
+    requires { 0 < nodes.step }
+    ensures { (d : List ℤ) → length d ≡ room → Tells (calls.raster_check m n unit lattice.now (nodes_of nodes) d) m n unit (λ e. Samplable m n e lattice.now (nodes_of nodes) room) result }
 {
-    let grid = checks::gridded(m, n, unit);
-    let Readiness::Of(_) = grid else {
-        return grid;
-    };
-    if let Verdict::Refused(r) = nodes::sizes(step, columns, rows) {
-        return Readiness::Refused(r);
+    let grid = checks::gridded(m, n, unit)?;
+    nodes.sizes()?;
+    if room < nodes.count() {
+        return Err(Refusal::Short);
     }
-    if room < columns * rows {
-        return Readiness::Refused(Refusal::Short);
-    }
-    if let Verdict::Refused(r) = checks::stored(m, n, lattice) {
-        return Readiness::Refused(r);
-    }
-    if let Verdict::Refused(r) = nodes::positions(unit * m, unit * n, x0, y0, step, columns, rows) {
-        return Readiness::Refused(r);
-    }
-    grid
+    checks::stored(grid.cells, lattice)?;
+    let unit = grid.unit();
+    nodes.positions(unit * grid.cells.m, unit * grid.cells.n)?;
+    Ok(grid)
 }
 
+// The step of the nodes may be 0, which stands for the default.
 pub fn raster(
     m: usize,
     n: usize,
     unit: usize,
     lattice: &[i64],
-    x0: usize,
-    y0: usize,
-    step: usize,
-    columns: usize,
-    rows: usize,
+    nodes: Nodes,
     output: &mut [i64],
-) -> CountTold
-    ensures { outcome (told result) output.new ≡ calls.raster_call m n unit lattice.now (calls.nodes x0 y0 step columns rows) output.old }
+) -> Result<usize, Refusal>
+    ensures { outcome (told result) output.new ≡ calls.raster_call m n unit lattice.now (nodes_asked nodes) output.old }
 {
     // put in first: nothing below knows the default
-    let by = nodes::step_of(step);
+    let stepped = nodes.at_default();
     let room = output.len();
-    match samplable(m, n, unit, lattice, x0, y0, by, columns, rows, room) {
-        Readiness::Of(e) => {
-            raster_within(m, n, e, lattice, x0, y0, by, columns, rows, output);
-            CountTold::Count(columns * rows)
-        }
-        Readiness::Refused(r) => CountTold::Refused(r),
-    }
+    let grid = samplable(m, n, unit, lattice, stepped, room)?;
+    raster_within(grid, lattice, stepped, output);
+    Ok(stepped.count())
 }

@@ -1,4 +1,4 @@
 -- What the proofs of several functions share.
-pub mod Columns
-pub mod Ring
+pub mod Stored
+pub mod Rings
 pub mod Row

@@ -1,3 +1,4 @@
+pub mod Inside
 pub mod Strips
 pub mod Reading
 pub mod Stripes

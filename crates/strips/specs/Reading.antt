@@ -5,36 +5,42 @@ use Rattle.std.proofs.Common.{◌∙◌, ⊎_elim, mul-le-mul_left, le_trans, no
 use Rattle.rules.specs.Rounding.{near}
 use Rattle.rules.specs.Surface.{denominator}
 use Rattle.rules.proofs.Laws.Basis.{cell_below, cell_mono, weighted_reads}
-use Rattle.rules.specs.Laws.Passed.{Gridded}
 use Rattle.rules.proofs.Laws.Passed.{edge_fits}
 use Rattle.basis.specs.Weighing.{Weighs, Located, Grounded, numerators, weight_size}
 use Rattle.basis.specs.Sums.{On, Based, on_grid, placed, weight_most, row_within, height_is}
 use Rattle.basis.specs.declared.Basis.{Basis}
 use Rattle.basis.specs.declared.Spot.{Spot}
-use Rattle.strips.specs.Strips.{strip_at, column_x, StripInside, Ringed, Spared, RingInRange, node_sum, height_at, row_cell}
-use Rattle.strips.specs.declared.Strip.{Strip}
+use Rattle.grid.specs.declared.Grid.{Grid}
+use Rattle.nodes.specs.declared.Nodes.{Nodes}
+use Rattle.strips.specs.Inside.{Inside}
+use Rattle.strips.specs.Strips.{column_x, Ringed, Spared, RingInRange, node_sum, height_at, row_cell}
+use Rattle.strips.specs.declared.piece.Strip.{Strip}
 
 -- ---- a strip of a raster
 
-module _ {m n e x0 y0 step columns column : ℕ} {s : Strip} (is : s ≡ strip_at m n e x0 y0 step columns column) where
-  pub strip_inside : Gridded m n e → ((c : ℕ) → c < columns → x0 + step * c ≤ 2 ^ e * m) → column < columns → StripInside s
-  strip_inside g inside starts =
-      rw is (record { grid = g; unit_is = refl; width = omega arith; narrow = omega arith; inside = λ i h. inside (column + i) (omega arith) })
+-- its 64 columns, or what is left of them, are columns of the raster
+pub strip_inside : {grid : Grid} {nodes : Nodes} {column : ℕ}
+    → (column < nodes.columns) × ((c : ℕ) → c < nodes.columns → nodes.x0 + nodes.step * c ≤ 2 ^ grid.e * grid.cells.m)
+    → Inside grid nodes column (min (nodes.columns - column) 64)
+strip_inside {column = column} p =
+    record { width = omega arith; narrow = omega arith; along_x = λ i h. p.1 (column + i) (omega arith) }
 
-  pub strip_ground : {l : List ℤ} → Grounded m n e l → Grounded s.m s.n s.e l
-  strip_ground g = rw is g
+-- of a strip by its fields
+module _ {grid : Grid} {nodes : Nodes} {column : ℕ} (s : Strip) (is : (s.grid ≡ grid) × (s.nodes ≡ nodes) × (s.column ≡ column) × (s.w ≡ min (nodes.columns - column) 64)) where
+  pub strip_ground : {l : List ℤ} → Grounded grid.cells.m grid.cells.n grid.e l → Grounded s.grid.cells.m s.grid.cells.n s.grid.e l
+  strip_ground g = rw is.0 g
 
-  pub strip_width : s.w ≡ min (columns - column) 64
-  strip_width = ap (λ (s : Strip). s.w) is
+  pub strip_width : s.w ≡ min (nodes.columns - column) 64
+  strip_width = is.3
 
 -- ---- a column
 
-module _ {s : Strip} (c : StripInside s) (i : ℕ) (h : i < s.w) where
+module _ (s : Strip) (i : ℕ) (h : i < s.w) where
   pub column_fits : column_x s i ≤ 512 * 512
-  column_fits = le_trans (c.inside i h) (edge_fits s.e s.m c.grid.e_most c.grid.m_most)
+  column_fits = le_trans (s.inside.along_x i h) (edge_fits s.grid.e s.grid.cells.m s.grid.gridded.e_most s.grid.gridded.m_most)
 
-  pub on_column : On (2 ^ s.e) s.m (column_x s i)
-  on_column = on_grid s.e s.m (column_x s i) c.grid.e_most c.grid.m_some (c.inside i h)
+  pub on_column : On (2 ^ s.grid.e) s.grid.cells.m (column_x s i)
+  on_column = on_grid s.grid.e s.grid.cells.m (column_x s i) s.grid.gridded.e_most s.grid.gridded.m_some (s.inside.along_x i h)
 
 -- ---- the ring from row to row
 
@@ -51,7 +57,7 @@ module _ {s : Strip} {l : List ℤ} {from to : ℕ} {ring : List ℤ} where
 pub next_more : (s : Strip) (j : ℕ) {next : ℕ} → next ≡ row_cell s j + 4 → (k : ℕ) → j + 1 ≤ k → next ≤ row_cell s k + 4
 next_more s j e k h =
     let later : j ≤ k = omega arith in
-    omega (arith, cell_mono (2 ^ s.e) s.n (s.y0 + s.step * j) (s.y0 + s.step * k) (pow_pos s.e) (omega (arith, mul-le-mul_left s.step later)))
+    omega (arith, cell_mono (2 ^ s.grid.e) s.grid.cells.n (s.nodes.y0 + s.nodes.step * j) (s.nodes.y0 + s.nodes.step * k) (pow_pos s.grid.e) (omega (arith, mul-le-mul_left s.nodes.step later)))
 
 -- ---- columns that a ring's sums spare
 
@@ -74,31 +80,35 @@ spared_ringed spared whole narrow other had =
 
 -- ---- a row
 
-module _ {s : Strip} (c : StripInside s) {p : Spot} {y : ℕ} (found : Located p (2 ^ s.e) s.n y) where
-  pub below : p.cell < s.n
-  below = rw found.cell_is (cell_below (2 ^ s.e) s.n y c.grid.n_some)
+module _ (s : Strip) {p : Spot} {y : ℕ} (found : Located p (2 ^ s.grid.e) s.grid.cells.n y) where
+  pub below : p.cell < s.grid.cells.n
+  below = rw found.cell_is (cell_below (2 ^ s.grid.e) s.grid.cells.n y s.grid.gridded.n_some)
 
-  pub ring_in_range : {l : List ℤ} {from to : ℕ} {ring : List ℤ} → Grounded s.m s.n s.e l → Ringed s l from to (p.cell + 4) (p.cell + 4) ring
-      → (i : ℕ) → from ≤ i → i < to → to ≤ s.w → RingInRange p.cell i ring
-  ring_in_range grounded has i m n w r a b = rw (has.sum r i (omega arith) b m n) (row_within grounded (c.inside i (omega arith)) r (omega (arith, below)))
+  pub ring_in_range : {l : List ℤ} {from to : ℕ} {ring : List ℤ} → Grounded s.grid.cells.m s.grid.cells.n s.grid.e l
+      → Ringed s l from to (p.cell + 4) (p.cell + 4) ring → (i : ℕ) → from ≤ i → i < to → to ≤ s.w → RingInRange p.cell i ring
+  ring_in_range grounded has i m n w r a b =
+      rw (has.sum r i (omega arith) b m n) (row_within grounded (s.inside.along_x i (omega arith)) r (omega (arith, below)))
 
-module _ {s : Strip} (c : StripInside s) (j : ℕ) (inside : s.y0 + s.step * j ≤ 2 ^ s.e * s.n) where
-  pub row_fits : s.y0 + s.step * j ≤ 512 * 512
-  row_fits = le_trans inside (edge_fits s.e s.n c.grid.e_most c.grid.n_most)
+module _ (s : Strip) (j : ℕ) (inside : s.nodes.y0 + s.nodes.step * j ≤ 2 ^ s.grid.e * s.grid.cells.n) where
+  abbrev y : ℕ
+  y = s.nodes.y0 + s.nodes.step * j
 
-  pub on_row : On (2 ^ s.e) s.n (s.y0 + s.step * j)
-  on_row = on_grid s.e s.n (s.y0 + s.step * j) c.grid.e_most c.grid.n_some inside
+  pub row_fits : y ≤ 512 * 512
+  row_fits = le_trans inside (edge_fits s.grid.e s.grid.cells.n s.grid.gridded.e_most s.grid.gridded.n_most)
 
-  module _ {p : Spot} (found : Located p (2 ^ s.e) s.n (s.y0 + s.step * j)) {b : Basis} (weighs : Weighs b s.unit p.offset) where
-    up : Based (2 ^ s.e) s.n (s.y0 + s.step * j) b p.cell
-    up = placed c.unit_is on_row found weighs
+  pub on_row : On (2 ^ s.grid.e) s.grid.cells.n y
+  on_row = on_grid s.grid.e s.grid.cells.n y s.grid.gridded.e_most s.grid.gridded.n_some inside
+
+  module _ {p : Spot} (found : Located p (2 ^ s.grid.e) s.grid.cells.n y) {b : Basis} {unit : ℕ} (is : unit ≡ 2 ^ s.grid.e) (weighs : Weighs b unit p.offset) where
+    up : Based (2 ^ s.grid.e) s.grid.cells.n y b p.cell
+    up = placed is on_row found weighs
 
     pub row_weight : weight_size b ≤ 805_306_368
     row_weight = weight_most on_row up
 
     pub node_is : {l : List ℤ} {from to : ℕ} {ring : List ℤ} → Ringed s l from to (p.cell + 4) (p.cell + 4) ring
-        → (i : ℕ) → from ≤ i → i < to → near (node_sum b ring p.cell i) (denominator (2 ^ s.e)) ≡ height_at s l j (s.column + i)
+        → (i : ℕ) → from ≤ i → i < to → near (node_sum b ring p.cell i) (denominator (2 ^ s.grid.e)) ≡ height_at s l j (s.column + i)
     unfolding node_sum
     node_is {l} has i m n =
-        ap (λ v. near v (denominator (2 ^ s.e))) (weighted_reads (numerators b) _ _ p.cell (λ r a b. has.sum r i (omega arith) b m n))
-        ∙ height_is up s.m l (column_x s i)
+        ap (λ v. near v (denominator (2 ^ s.grid.e))) (weighted_reads (numerators b) _ _ p.cell (λ r a b. has.sum r i (omega arith) b m n))
+        ∙ height_is up s.grid.cells.m l (column_x s i)

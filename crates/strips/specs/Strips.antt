@@ -1,62 +1,33 @@
 -- What the contracts of a strip's functions cite: its columns' numerators, the ring of rounded x sums, and the part of a raster that it fills.
-use Rattle.std.specs.Prelude.{◌≡◌, List, ℕ, ◌+◌, ◌-◌, ◌*◌, ◌%◌, ◌^◌, ◌≤◌, ◌<◌, min, ℤ, pos, nat_abs, length, get_or, set}
+use Rattle.std.specs.Prelude.{◌≡◌, List, ℕ, ◌+◌, ◌*◌, ◌%◌, ◌^◌, ◌≤◌, ◌<◌, ℤ, pos, nat_abs, length, get_or}
 use Rattle.algebra.specs.Table.{tabulate, laid}
 use Rattle.rules.specs.Rounding.{near}
 use Rattle.rules.specs.Grid.{control}
 use Rattle.rules.specs.Surface.{denominator, cell, weighted, height}
-use Rattle.rules.specs.Laws.Passed.{Gridded}
-use Rattle.basis.specs.Weighing.{Grounded, numerators}
-use Rattle.basis.specs.Sums.{Based, back, row_height}
+use Rattle.basis.specs.Weighing.{numerators}
+use Rattle.basis.specs.Sums.{Based, row_height}
 use Rattle.basis.specs.declared.Basis.{Basis}
-use Rattle.strips.specs.declared.Strip.{Strip}
+use Rattle.strips.specs.declared.piece.Strip.{Strip}
 
 -- ---- a strip's columns
 
--- the strip that begins with this column
-abbrev pub strip_at : ℕ → ℕ → ℕ → ℕ → ℕ → ℕ → ℕ → ℕ → Strip
-strip_at m n e x0 y0 step columns column =
-    record { m = m; n = n; unit = 2 ^ e; e = e; x0 = x0; y0 = y0; step = step; columns = columns; column = column; w = min (columns - column) 64 }
-
 -- the position of column i
 abbrev pub column_x : Strip → ℕ → ℕ
-column_x s i = s.x0 + s.step * (s.column + i)
+column_x s i = s.nodes.x0 + s.nodes.step * (s.column + i)
 
--- they are columns of the raster and lie on the grid
-pub record StripInside (s : Strip) : Type 0 where
-  pub grid : Gridded s.m s.n s.e
-  pub unit_is : s.unit ≡ 2 ^ s.e
-  pub width : s.w ≤ 64
-  pub narrow : s.column + s.w ≤ s.columns
-  pub inside : (i : ℕ) → i < s.w → column_x s i ≤ 2 ^ s.e * s.m
-
--- the four numerators that stand at column i
-abbrev pub taps_at : List ℤ → ℕ → Basis
-taps_at taps i =
-    record { b0 = get_or taps (4 * i) (pos 0); b1 = get_or taps (4 * i + 1) (pos 0); b2 = get_or taps (4 * i + 2) (pos 0); b3 = get_or taps (4 * i + 3) (pos 0) }
-
--- those of b, stored there
-abbrev pub put : List ℤ → ℕ → Basis → List ℤ
-put taps i b = set (set (set (set taps (4 * i) b.b0) (4 * i + 1) b.b1) (4 * i + 2) b.b2) (4 * i + 3) b.b3
-
--- numerators as their bits are read back
-abbrev pub basis_back : Basis → Basis
-basis_back b = record { b0 = back b.b0; b1 = back b.b1; b2 = back b.b2; b3 = back b.b3 }
+-- what a list of numerators has at column i
+abbrev pub taps_at : List Basis → ℕ → Basis
+taps_at taps i = get_or taps i (record { b0 = pos 0; b1 = pos 0; b2 = pos 0; b3 = pos 0 })
 
 -- the first w columns have their cells and their numerators
-abbrev pub Taps : Strip → ℕ → List ℕ → List ℤ → Type 0
-Taps s w cells taps = (i : ℕ) → i < w → Based (2 ^ s.e) s.m (column_x s i) (taps_at taps i) (get_or cells i 0)
-
--- all of them have, and the lattice can be read there
-pub record Tapped (s : Strip) (lattice : List ℤ) (cells : List ℕ) (taps : List ℤ) : Type 0 where
-  pub columns : StripInside s
-  pub grounded : Grounded s.m s.n s.e lattice
-  pub tapped : Taps s s.w cells taps
+abbrev pub Taps : Strip → ℕ → List ℕ → List Basis → Type 0
+Taps s w cells taps = (i : ℕ) → i < w → Based (2 ^ s.grid.e) s.grid.cells.m (column_x s i) (taps_at taps i) (get_or cells i 0)
 
 -- ---- the ring
 
 -- the rounded x sum of lattice row r at column i
 abbrev pub column_sum : Strip → List ℤ → ℕ → ℕ → ℤ
-column_sum s lattice r i = row_height (2 ^ s.e) s.m lattice (column_x s i) r
+column_sum s lattice r i = row_height (2 ^ s.grid.e) s.grid.cells.m lattice (column_x s i) r
 
 -- of the four lattice rows before last, the ring has the sums of those before next, at columns `from` to `to` - 1
 pub record Ringed (s : Strip) (lattice : List ℤ) (from to last next : ℕ) (ring : List ℤ) : Type 0 where
@@ -82,30 +53,29 @@ node_at e b ring cell i = near (node_sum b ring cell i) (denominator (2 ^ e))
 
 -- the height at row j and column c of the raster
 abbrev pub height_at : Strip → List ℤ → ℕ → ℕ → ℤ
-height_at s lattice j c = height (2 ^ s.e) s.m s.n (control s.m lattice) (s.x0 + s.step * c) (s.y0 + s.step * j)
+height_at s lattice j c = height (2 ^ s.grid.e) s.grid.cells.m s.grid.cells.n (control s.grid.cells.m lattice) (s.nodes.x0 + s.nodes.step * c) (s.nodes.y0 + s.nodes.step * j)
 
 -- ---- a strip's rows
 
 abbrev pub row_cell : Strip → ℕ → ℕ
-row_cell s j = cell (2 ^ s.e) s.n (s.y0 + s.step * j)
+row_cell s j = cell (2 ^ s.grid.e) s.grid.cells.n (s.nodes.y0 + s.nodes.step * j)
 
 -- row j is on the grid and has its place, and the ring has the lattice rows below next
-pub record RowDue (s : Strip) (j next : ℕ) (lattice : List ℤ) (cells : List ℕ) (taps ring : List ℤ) (room : ℕ) : Type 0 where
-  pub strip : Tapped s lattice cells taps
-  pub inside : s.y0 + s.step * j ≤ 2 ^ s.e * s.n
+pub record RowDue (s : Strip) (j next : ℕ) (lattice ring : List ℤ) (room : ℕ) : Type 0 where
+  pub inside : s.nodes.y0 + s.nodes.step * j ≤ 2 ^ s.grid.e * s.grid.cells.n
   pub next_most : next ≤ row_cell s j + 4
   pub ringed : Ringed s lattice 0 s.w next next ring
-  pub fits : j * s.columns + s.column + s.w ≤ room
+  pub fits : j * s.nodes.columns + s.column + s.w ≤ room
 
 pub record RowDone (s : Strip) (j next : ℕ) (lattice ring before after : List ℤ) : Type 0 where
   pub next_is : next ≡ row_cell s j + 4
   pub ringed : Ringed s lattice 0 s.w next next ring
-  pub filled : after ≡ laid (j * s.columns + s.column) (tabulate s.w (λ i. height_at s lattice j (s.column + i))) before
+  pub filled : after ≡ laid (j * s.nodes.columns + s.column) (tabulate s.w (λ i. height_at s lattice j (s.column + i))) before
 
 -- the rows of a strip are on the grid and have their places
 pub record Room (s : Strip) (rows room : ℕ) : Type 0 where
-  pub inside : (j : ℕ) → j < rows → s.y0 + s.step * j ≤ 2 ^ s.e * s.n
-  pub fits : s.columns * rows ≤ room
+  pub inside : (j : ℕ) → j < rows → s.nodes.y0 + s.nodes.step * j ≤ 2 ^ s.grid.e * s.grid.cells.n
+  pub fits : s.nodes.columns * rows ≤ room
 
 -- ---- what a strip leaves
 

@@ -1,41 +1,45 @@
 -- It is refused as its checks say, and behind them tells what the nodes are.
-use Rattle.std.proofs.Common.{◌≡◌, sym, ap₂, ◌∙◌, Bool, List, ℕ, ◌^◌, ℤ}
+use Rattle.std.proofs.Common.{◌≡◌, refl, ◌∙◌, Bool, List, ℕ, ◌^◌, ℤ}
 use Rattle.std.proofs.Math.Option.{none, some}
 use Rattle.machine.specs.Tests.{plain}
 use Rattle.rules.specs.Answers.{Refusal, accepted, refused}
 use Rattle.rules.specs.Calls.{Nodes}
 use Rattle.rules.specs.Above.{above_check, above_answer, any_above}
 use Rattle.rules.proofs.Laws.Checks.{none_answer, some_answer}
-use Rattle.checks.specs.Passed.{exponent_check, refusal_check}
+use Rattle.std.proofs.lemmas.Result.{err_from_is_err_and}
+use Rattle.grid.specs.declared.Grid.{Grid}
+use Rattle.checks.specs.Ready.{Behind}
+use Rattle.checks.specs.Passed.{grid_none, grid_refused}
 use Rattle.above.proofs.any_above.Goals as goal
 
 module _ (m n U : ℕ) (l : List ℤ) (g : Nodes) {z stage : ℤ} (is : z ≡ stage) where
-  -- behind the checks the answer is what was found at U = 2^e
-  by_nodes : (e : ℕ) {r b : Bool} → U ≡ 2 ^ e → above_check m n U l g z ≡ none → r ≡ any_above m n (2 ^ e) l g z → r ≡ b → accepted b ≡ above_answer m n U l g stage
+  same : {P : ℕ → Type 0} {grid : Grid} → Behind m n U P grid → any_above grid.cells.m grid.cells.n (2 ^ grid.e) l g z ≡ any_above m n U l g stage
+  same b = rw (b.m_is, b.n_is, b.unit_is, is) refl
+
+  -- behind the checks the answer is what was found on the grid
+  by_nodes : {P : ℕ → Type 0} {grid : Grid} {b : Bool} → Behind m n U P grid → above_check m n U l g z ≡ none
+      → b ≡ any_above grid.cells.m grid.cells.n (2 ^ grid.e) l g z → accepted b ≡ above_answer m n U l g stage
   unfolding above_answer
-  by_nodes e u c f b = none_answer _ (rw is at c) (sym b ∙ f ∙ ap₂ (λ U z. any_above m n U l g z) (sym u) is)
+  by_nodes b c f = none_answer _ (rw is at c) (f ∙ same b)
 
   by_checks : {r : Refusal} → above_check m n U l g z ≡ some r → refused r ≡ above_answer m n U l g stage
   unfolding above_answer
   by_checks c = some_answer _ (rw is at c)
 
+pub returns-in_err-grid : goal.returns-in_err-grid
+returns-in_err-grid c =
+    let p = err_from_is_err_and c.from_residual.result c.from_residual.ensures.1 in
+    rw (p.1, p.2, ← c.at_default-stepped.ensures.0)
+    (by_checks _ _ _ _ _ (plain c.args.stage c.ranges.stage.sfits) (grid_refused c.in_err-grid.ensures refl))
+
 pub above_within-requires : goal.above_within-requires
-above_within-requires c = (c.step_of-by.ensures.1, (c.inspectable.ensures.behind _ c.in-Of.is).1)
+above_within-requires c =
+    let b = c.inspectable.ensures.behind _ c.in_ok-grid.was in
+    (c.at_default-stepped.ensures.1, rw (b.m_is, b.n_is) b.holds)
 
-pub returns-then-above_within : goal.returns-then-above_within
-returns-then-above_within c =
+pub returns : goal.returns
+returns c =
     let t = c.inspectable.ensures in
-    let at = c.in-Of.is in
-    rw (← c.step_of-by.ensures.0)
-    (by_nodes _ _ _ _ _ (plain c.args.stage c.ranges.stage.sfits) _ (t.behind _ at).0 (exponent_check t at) c.above_within.ensures c.if-above_within.true)
-
-pub returns-else-above_within : goal.returns-else-above_within
-returns-else-above_within c =
-    let t = c.inspectable.ensures in
-    let at = c.in-Of.is in
-    rw (← c.step_of-by.ensures.0)
-    (by_nodes _ _ _ _ _ (plain c.args.stage c.ranges.stage.sfits) _ (t.behind _ at).0 (exponent_check t at) c.above_within.ensures c.if-above_within.false)
-
-pub returns-in-Refused : goal.returns-in-Refused
-returns-in-Refused c =
-    rw (← c.step_of-by.ensures.0) (by_checks _ _ _ _ _ (plain c.args.stage c.ranges.stage.sfits) (refusal_check c.inspectable.ensures c.in-Refused.is))
+    let i = c.in_ok-grid.was in
+    rw (← c.at_default-stepped.ensures.0)
+    (by_nodes _ _ _ _ _ (plain c.args.stage c.ranges.stage.sfits) (t.behind _ i) (grid_none t i) c.above_within.ensures)

@@ -1,5 +1,5 @@
 -- Each refusal is the first check that fails, and behind the last check the nodes can be read.
-use Rattle.std.proofs.Common.{◌≡◌, sym, ap, ◌∙◌, Bool, false, ℕ, ◌*◌, ◌^◌, ◌≤◌, ◌<◌, List, ℤ, length, arith, le-leb}
+use Rattle.std.proofs.Common.{◌≡◌, refl, sym, ap, ◌∙◌, Bool, false, ℕ, ◌*◌, ◌^◌, ◌≤◌, ◌<◌, List, ℤ, length, le-leb}
 use Rattle.std.proofs.Math.Option.{none, some}
 use Rattle.std.proofs.Math.Dec.{leb}
 use borrow.Author.Tests.{lt-leb}
@@ -10,13 +10,14 @@ use Rattle.rules.specs.Calls.{Nodes, cells_check, unit_check, stage_check, latti
 use Rattle.rules.specs.Above.{above_check}
 use Rattle.rules.proofs.Laws.Checks.{then_none, then_some, then_assoc}
 use Rattle.rules.specs.Laws.Passed.{Gridded}
-use Rattle.rules.proofs.Laws.Passed.{controls_fit, last_fits, lattice_passed, stage_passed}
-use Rattle.answers.specs.Cause.{check}
-use Rattle.checks.specs.Ready.{grid_check}
-use Rattle.checks.specs.Passed.{exponent_check, refusal_check, tells_exponent, tells_refusal}
+use Rattle.rules.proofs.Laws.Passed.{last_fits, lattice_passed, stage_passed}
+use Rattle.std.proofs.lemmas.Result.{err_from_is_err_and}
+use Rattle.grid.specs.declared.Grid.{Grid}
+use Rattle.checks.specs.Ready.{grid_check, Behind}
+use Rattle.checks.specs.Passed.{grid_none, grid_refused, tells_grid, tells_refusal}
 use Rattle.nodes.specs.Inside.{size_passed, nodes_inside}
 use Rattle.above.proofs.inspectable.Goals as goal
-use Rattle.above.proofs.inspectable.Goals.{In-Of, In_default-sizes, Else-not-in_range, In_default-lattice}
+use Rattle.above.proofs.inspectable.Goals.{In_ok-grid, In_ok-sizes, Else-lattice-controls, Else-not-in_range, In_ok-lattice}
 
 -- ---- the refusal at each check
 
@@ -64,19 +65,31 @@ module _ (m n U : ℕ) (l : List ℤ) (g : Nodes) (stage : ℤ) where
 
 -- ---- what is known behind each check
 
-module _ (c : In-Of) where
-  grid_none : grid_check c.args.m c.args.n c.args.unit ≡ none
-  grid_none = exponent_check c.gridded-grid.ensures c.in-Of.is
+-- the checks of a lattice and of nodes on a grid are those on the caller's
+same_lattice : {m n U : ℕ} {P : ℕ → Type 0} {g : Grid} → (l : List ℤ) → Behind m n U P g → lattice_check m n l ≡ lattice_check g.cells.m g.cells.n l
+same_lattice l b = rw (b.m_is, b.n_is) refl
 
-  behind : (c.args.unit ≡ 2 ^ c.in-Of.field-0) × Gridded c.args.m c.args.n c.in-Of.field-0
-  behind = c.gridded-grid.ensures.behind c.in-Of.field-0 c.in-Of.is
+same_nodes : {m n U : ℕ} {P : ℕ → Type 0} {g : Grid} → (nodes : Nodes) → Behind m n U P g
+    → nodes_check (U * m) (U * n) nodes ≡ nodes_check (2 ^ g.e * g.cells.m) (2 ^ g.e * g.cells.n) nodes
+same_nodes nodes b = rw (b.m_is, b.n_is, b.unit_is) refl
 
-module _ (c : In_default-sizes) where
-  sizes_none : size_check c.args.step c.args.columns c.args.rows ≡ none
-  sizes_none = sym c.sizes.ensures ∙ ap check c.in_default-sizes.is
+-- as many control values as the grid has
+same_count : {m n U : ℕ} {P : ℕ → Type 0} {g : Grid} → Behind m n U P g → {count : ℕ} → count ≡ controls g.cells.m g.cells.n → count ≡ controls m n
+same_count b e = rw (b.m_is, b.n_is) at e
 
-  sides : (c.args.columns ≤ 8_193) × (c.args.rows ≤ 8_193)
-  sides = size_passed _ _ _ sizes_none
+module _ (c : In_ok-grid) where
+  behind : Behind c.args.m c.args.n c.args.unit (Gridded c.args.m c.args.n) c.in_ok-grid.grid
+  behind = c.gridded.ensures.behind _ c.in_ok-grid.was
+
+  grid_passed : grid_check c.args.m c.args.n c.args.unit ≡ none
+  grid_passed = grid_none c.gridded.ensures c.in_ok-grid.was
+
+module _ (c : In_ok-sizes) where
+  sizes_passed : size_check c.args.nodes.step c.args.nodes.columns c.args.nodes.rows ≡ none
+  sizes_passed = sym c.in_ok-sizes.ensures
+
+  sides : (c.args.nodes.columns ≤ 8_193) × (c.args.nodes.rows ≤ 8_193)
+  sides = size_passed _ _ _ sizes_passed
 
 -- `in_range` was handed the stage's bits, read back
 tested : {z stage : ℤ} {b : Bool} → z ≡ stage → b ≡ in_range z → b ≡ in_range stage
@@ -86,83 +99,78 @@ staged : (c : Else-not-in_range) → stage_check c.args.stage ≡ none
 unfolding stage_check require
 staged c = ap (λ b. require b (range 0)) (sym (tested (plain c.args.stage c.ranges.stage.sfits) c.in_range.ensures) ∙ c.if-not-in_range.false)
 
-lattice_none : (c : In_default-lattice) → lattice_check c.args.m c.args.n c.args.lattice.now ≡ none
-lattice_none c = sym c.lattice.ensures ∙ ap check c.in_default-lattice.is
-
 -- ---- the goals
 
-pub returns-in_default : goal.returns-in_default
-returns-in_default c = let i = c.in_default.is in rw i (tells_refusal (by_grid _ _ _ _ _ _ (refusal_check c.gridded-grid.ensures i)))
+pub returns-in_err-grid : goal.returns-in_err-grid
+returns-in_err-grid c =
+    let p = err_from_is_err_and c.from_residual.result c.from_residual.ensures.1 in
+    rw (p.1, p.2) (tells_refusal (by_grid _ _ _ _ _ _ (grid_refused c.in_err-grid.ensures refl)))
 
-pub returns-in-Refused : goal.returns-in-Refused
-returns-in-Refused c =
-    let g = (goal.at.returns-in-Refused c).In-Of in
-    tells_refusal (by_sizes _ _ _ _ _ _ (grid_none g) (sym c.sizes.ensures ∙ ap check c.in-Refused.is))
+pub returns-in_err-sizes : goal.returns-in_err-sizes
+returns-in_err-sizes c =
+    let at = (goal.at.returns-in_err-sizes c).In_ok-grid in
+    let p = err_from_is_err_and c.from_residual-in_err-sizes.result c.from_residual-in_err-sizes.ensures.1 in
+    rw (p.1, p.2) (tells_refusal (by_sizes _ _ _ _ _ _ (grid_passed at) (sym c.in_err-sizes.ensures)))
 
-pub overflow_add-m : goal.overflow_add-m
-overflow_add-m c = omega (arith, (behind (goal.at.overflow_add-m c).In-Of).1.m_most)
+pub returns-then-lattice-controls : goal.returns-then-lattice-controls
+returns-then-lattice-controls c =
+    let at = goal.at.returns-then-lattice-controls c in
+    let count = same_count (behind at.In_ok-grid) c.controls.ensures in
+    tells_refusal (by_short _ _ _ _ _ _ (grid_passed at.In_ok-grid) (sizes_passed at.In_ok-sizes) (rw count at c.if-lattice-controls.true))
 
-pub overflow_add-n : goal.overflow_add-n
-overflow_add-n c = omega (arith, (behind (goal.at.overflow_add-n c).In-Of).1.n_most)
-
-pub overflow_mul-m : goal.overflow_mul-m
-overflow_mul-m c = let g = (behind (goal.at.overflow_mul-m c).In-Of).1 in omega (arith, controls_fit _ _ g.m_most g.n_most)
-
-pub returns-then-lattice-m : goal.returns-then-lattice-m
-unfolding controls
-returns-then-lattice-m c =
-    let at = goal.at.returns-then-lattice-m c in
-    tells_refusal (by_short _ _ _ _ _ _ (grid_none at.In-Of) (sizes_none at.In_default-sizes) c.if-lattice-m.true)
+long : (c : Else-lattice-controls) → controls c.args.m c.args.n ≤ length c.args.lattice.now
+long c =
+    let count = same_count (c.gridded.ensures.behind _ c.in_ok-grid.was) c.controls.ensures in
+    rw count at c.if-lattice-controls.false
 
 pub returns-then-not-in_range : goal.returns-then-not-in_range
-unfolding controls
 returns-then-not-in_range c =
     let at = goal.at.returns-then-not-in_range c in
     tells_refusal
-    (by_stage _ _ _ _ _ _ (grid_none at.In-Of) (sizes_none at.In_default-sizes) c.if-lattice-m.false (sym (tested (plain c.args.stage c.ranges.stage.sfits) c.in_range.ensures) ∙ c.if-not-in_range.true))
+    (by_stage _ _ _ _ _ _ (grid_passed at.In_ok-grid) (sizes_passed at.In_ok-sizes) (long at.Else-lattice-controls)
+    (sym (tested (plain c.args.stage c.ranges.stage.sfits) c.in_range.ensures) ∙ c.if-not-in_range.true))
 
-pub lattice-requires : goal.lattice-requires
-unfolding controls
-lattice-requires c = let g = (behind (goal.at.lattice-requires c).In-Of).1 in (g.m_most, g.n_most, c.if-lattice-m.false)
-
-pub returns-in-Refused-lattice : goal.returns-in-Refused-lattice
-unfolding controls
-returns-in-Refused-lattice c =
-    let at = goal.at.returns-in-Refused-lattice c in
-    tells_refusal
-    (by_lattice _ _ _ _ _ _ (grid_none at.In-Of) (sizes_none at.In_default-sizes) c.if-lattice-m.false (staged at.Else-not-in_range)
-    (sym c.lattice.ensures ∙ ap check c.in-Refused-lattice.is))
-
-pub overflow_mul-unit : goal.overflow_mul-unit
-overflow_mul-unit c = let b = behind (goal.at.overflow_mul-unit c).In-Of in omega (arith, last_fits _ _ b.0 b.1.e_most b.1.m_most)
-
-pub overflow_mul-unit-2 : goal.overflow_mul-unit-2
-overflow_mul-unit-2 c = let b = behind (goal.at.overflow_mul-unit-2 c).In-Of in omega (arith, last_fits _ _ b.0 b.1.e_most b.1.n_most)
+pub returns-in_err-lattice : goal.returns-in_err-lattice
+returns-in_err-lattice c =
+    let at = goal.at.returns-in_err-lattice c in
+    let p = err_from_is_err_and c.from_residual-in_err-lattice.result c.from_residual-in_err-lattice.ensures.1 in
+    rw (p.1, p.2)
+    (tells_refusal
+    (by_lattice _ _ _ _ _ _ (grid_passed at.In_ok-grid) (sizes_passed at.In_ok-sizes) (long at.Else-lattice-controls) (staged at.Else-not-in_range)
+    (same_lattice _ (behind at.In_ok-grid) ∙ sym c.in_err-lattice.ensures)))
 
 pub positions-requires : goal.positions-requires
 positions-requires c =
-    let at = goal.at.positions-requires c in
-    let b = behind at.In-Of in
-    let s = sides at.In_default-sizes in
-    (last_fits _ _ b.0 b.1.e_most b.1.m_most, last_fits _ _ b.0 b.1.e_most b.1.n_most, omega arith, s.0, s.1)
+    let g = c.in_ok-grid.grid.gridded in
+    let s = sides ((goal.at.positions-requires c).In_ok-sizes) in
+    (last_fits _ _ c.unit-unit.ensures g.e_most g.m_most, last_fits _ _ c.unit-unit.ensures g.e_most g.n_most, c.requires, s.0, s.1)
 
-pub returns-in-Refused-positions : goal.returns-in-Refused-positions
-unfolding controls
-returns-in-Refused-positions c =
-    let at = goal.at.returns-in-Refused-positions c in
-    tells_refusal
-    (by_nodes _ _ _ _ _ _ (grid_none at.In-Of) (sizes_none at.In_default-sizes) c.if-lattice-m.false (staged at.Else-not-in_range) (lattice_none at.In_default-lattice)
-    (sym c.positions.ensures ∙ ap check c.in-Refused-positions.is))
+pub returns-in_err-positions : goal.returns-in_err-positions
+returns-in_err-positions c =
+    let at = goal.at.returns-in_err-positions c in
+    let b = behind at.In_ok-grid in
+    let p = err_from_is_err_and c.from_residual-in_err-positions.result c.from_residual-in_err-positions.ensures.1 in
+    rw (p.1, p.2)
+    (tells_refusal
+    (by_nodes _ _ _ _ _ _ (grid_passed at.In_ok-grid) (sizes_passed at.In_ok-sizes) (long at.Else-lattice-controls) (staged at.Else-not-in_range)
+    (same_lattice _ b ∙ sym c.in_ok-lattice.ensures) (same_nodes _ b ∙ sym (rw c.unit-unit.ensures at c.in_err-positions.ensures))))
 
 pub returns : goal.returns
-unfolding controls
 returns c =
     let at = goal.at.returns c in
-    let b = behind at.In-Of in
-    let long = c.if-lattice-m.false in
+    let b = behind at.In_ok-grid in
+    let many = long at.Else-lattice-controls in
     let stage_none = staged at.Else-not-in_range in
-    let latticed = lattice_none at.In_default-lattice in
-    let none_out = sym c.positions.ensures ∙ ap check c.in_default-positions.is in
-    rw c.in-Of.is
-    (tells_exponent (by_nodes _ _ _ _ _ _ (grid_none at.In-Of) (sizes_none at.In_default-sizes) long stage_none latticed none_out) b.0
-    (record { grounded = record { grid = b.1; long = long; ranged = lattice_passed _ _ _ latticed }; inside = rw b.0 at (nodes_inside _ _ _ none_out); stage_size = stage_passed _ stage_none }))
+    let latticed = same_lattice _ b ∙ sym c.in_ok-lattice.ensures in
+    let none_out = same_nodes _ b ∙ sym (rw c.unit-unit.ensures at c.in_ok-positions.ensures) in
+    tells_grid (by_nodes _ _ _ _ _ _ (grid_passed at.In_ok-grid) (sizes_passed at.In_ok-sizes) many stage_none latticed none_out)
+    (record {
+      m_is = b.m_is;
+      n_is = b.n_is;
+      unit_is = b.unit_is;
+      holds = record {
+        grounded = record { grid = b.holds; long = many; ranged = lattice_passed _ _ _ latticed };
+        inside = rw b.unit_is at (nodes_inside _ _ _ none_out);
+        stage_size = stage_passed _ stage_none;
+      };
+    })

@@ -1,5 +1,5 @@
 -- Each refusal is the first check that fails, and behind the last check the nodes can be read.
-use Rattle.std.proofs.Common.{◌≡◌, sym, ap, ◌∙◌, refl, Bool, true, false, ◌&&◌, ℕ, ◌*◌, ◌^◌, ◌≤◌, ◌<◌, List, ℤ, length, mul-le-mul, arith, le-leb}
+use Rattle.std.proofs.Common.{◌≡◌, refl, sym, ap, ◌∙◌, Bool, true, false, ◌&&◌, ℕ, ◌*◌, ◌^◌, ◌≤◌, ◌<◌, List, ℤ, length, le-leb}
 use Rattle.std.proofs.Math.Option.{none, some}
 use Rattle.std.proofs.Math.Dec.{leb}
 use borrow.Author.Tests.{lt-leb}
@@ -7,14 +7,15 @@ use Rattle.rules.specs.Answers.{Refusal, Check, short, require, ◌then◌}
 use Rattle.rules.specs.Grid.{controls}
 use Rattle.rules.specs.Calls.{Nodes, cells_check, unit_check, lattice_check, raster_check, size_check, nodes_check}
 use Rattle.rules.proofs.Laws.Checks.{then_none, then_some, then_assoc}
-use Rattle.answers.specs.Cause.{check}
-use Rattle.checks.specs.Ready.{grid_check, stored_check}
 use Rattle.rules.specs.Laws.Passed.{Gridded}
 use Rattle.rules.proofs.Laws.Passed.{last_fits}
-use Rattle.checks.specs.Passed.{stored_passed, exponent_check, refusal_check, tells_exponent, tells_refusal}
+use Rattle.std.proofs.lemmas.Result.{err_from_is_err_and}
+use Rattle.grid.specs.declared.Grid.{Grid}
+use Rattle.checks.specs.Ready.{grid_check, stored_check, Behind}
+use Rattle.checks.specs.Passed.{stored_passed, grid_none, grid_refused, tells_grid, tells_refusal}
 use Rattle.nodes.specs.Inside.{size_passed, nodes_inside}
 use Rattle.raster.proofs.samplable.Goals as goal
-use Rattle.raster.proofs.samplable.Goals.{In-Of, In_default-sizes, In_default-stored}
+use Rattle.raster.proofs.samplable.Goals.{In_ok-grid, In_ok-sizes}
 
 -- ---- the refusal at each check
 
@@ -68,77 +69,86 @@ module _ (m n U : ℕ) (l : List ℤ) (g : Nodes) {room : ℕ} (d : List ℤ) (i
 
 -- ---- what is known behind each check
 
-module _ (c : In-Of) where
-  grid_none : grid_check c.args.m c.args.n c.args.unit ≡ none
-  grid_none = exponent_check c.gridded-grid.ensures c.in-Of.is
+-- the checks of a lattice and of nodes on a grid are those on the caller's
+same_stored : {m n U : ℕ} {P : ℕ → Type 0} {g : Grid} → (l : List ℤ) → Behind m n U P g → stored_check m n l ≡ stored_check g.cells.m g.cells.n l
+same_stored l b = rw (b.m_is, b.n_is) refl
 
-  behind : (c.args.unit ≡ 2 ^ c.in-Of.field-0) × Gridded c.args.m c.args.n c.in-Of.field-0
-  behind = c.gridded-grid.ensures.behind c.in-Of.field-0 c.in-Of.is
+same_nodes : {m n U : ℕ} {P : ℕ → Type 0} {g : Grid} → (nodes : Nodes) → Behind m n U P g
+    → nodes_check (U * m) (U * n) nodes ≡ nodes_check (2 ^ g.e * g.cells.m) (2 ^ g.e * g.cells.n) nodes
+same_nodes nodes b = rw (b.m_is, b.n_is, b.unit_is) refl
 
-module _ (c : In_default-sizes) where
-  sizes_none : size_check c.args.step c.args.columns c.args.rows ≡ none
-  sizes_none = sym c.sizes.ensures ∙ ap check c.in_default-sizes.is
+module _ (c : In_ok-grid) where
+  behind : Behind c.args.m c.args.n c.args.unit (Gridded c.args.m c.args.n) c.in_ok-grid.grid
+  behind = c.gridded.ensures.behind _ c.in_ok-grid.was
 
-  sides : (c.args.columns ≤ 8_193) × (c.args.rows ≤ 8_193)
-  sides = size_passed _ _ _ sizes_none
+  grid_passed : grid_check c.args.m c.args.n c.args.unit ≡ none
+  grid_passed = grid_none c.gridded.ensures c.in_ok-grid.was
 
-stored_none : (c : In_default-stored) → stored_check c.args.m c.args.n c.args.lattice.now ≡ none
-stored_none c = sym c.stored.ensures ∙ ap check c.in_default-stored.is
+module _ (c : In_ok-sizes) where
+  sizes_passed : size_check c.args.nodes.step c.args.nodes.columns c.args.nodes.rows ≡ none
+  sizes_passed = sym c.in_ok-sizes.ensures
+
+  sides : (c.args.nodes.columns ≤ 8_193) × (c.args.nodes.rows ≤ 8_193)
+  sides = size_passed _ _ _ sizes_passed
 
 -- ---- the goals
 
-pub returns-in_default : goal.returns-in_default
-returns-in_default c d h = let i = c.in_default.is in rw i (tells_refusal (by_grid _ _ _ _ _ d h (refusal_check c.gridded-grid.ensures i)))
+pub returns-in_err-grid : goal.returns-in_err-grid
+returns-in_err-grid c d h =
+    let p = err_from_is_err_and c.from_residual.result c.from_residual.ensures.1 in
+    rw (p.1, p.2) (tells_refusal (by_grid _ _ _ _ _ d h (grid_refused c.in_err-grid.ensures refl)))
 
-pub returns-in-Refused : goal.returns-in-Refused
-returns-in-Refused c d h =
-    let g = (goal.at.returns-in-Refused c).In-Of in
-    tells_refusal (by_sizes _ _ _ _ _ d h (grid_none g) (sym c.sizes.ensures ∙ ap check c.in-Refused.is))
+pub returns-in_err-sizes : goal.returns-in_err-sizes
+returns-in_err-sizes c d h =
+    let at = (goal.at.returns-in_err-sizes c).In_ok-grid in
+    let p = err_from_is_err_and c.from_residual-in_err-sizes.result c.from_residual-in_err-sizes.ensures.1 in
+    rw (p.1, p.2) (tells_refusal (by_sizes _ _ _ _ _ d h (grid_passed at) (sym c.in_err-sizes.ensures)))
 
-pub overflow_mul-columns : goal.overflow_mul-columns
-overflow_mul-columns c = omega (arith, mul-le-mul (sides c).0 (sides c).1)
+pub count-requires : goal.count-requires
+count-requires c = sides ((goal.at.count-requires c).In_ok-sizes)
 
-pub returns-then-room-columns : goal.returns-then-room-columns
-returns-then-room-columns c d h =
-    let at = goal.at.returns-then-room-columns c in
-    tells_refusal (by_room _ _ _ _ _ d h (grid_none at.In-Of) (sizes_none at.In_default-sizes) c.if-room-columns.true)
+pub returns-then-room-count : goal.returns-then-room-count
+returns-then-room-count c d h =
+    let at = goal.at.returns-then-room-count c in
+    tells_refusal (by_room _ _ _ _ _ d h (grid_passed at.In_ok-grid) (sizes_passed at.In_ok-sizes) (rw c.count.ensures at c.if-room-count.true))
 
-pub stored-requires : goal.stored-requires
-stored-requires c = let g = (behind (goal.at.stored-requires c).In-Of).1 in (g.m_most, g.n_most)
-
-pub returns-in-Refused-stored : goal.returns-in-Refused-stored
-returns-in-Refused-stored c d h =
-    let at = goal.at.returns-in-Refused-stored c in
-    tells_refusal
-    (by_stored _ _ _ _ _ d h (grid_none at.In-Of) (sizes_none at.In_default-sizes) c.if-room-columns.false (sym c.stored.ensures ∙ ap check c.in-Refused-stored.is))
-
-pub overflow_mul-unit : goal.overflow_mul-unit
-overflow_mul-unit c = let b = behind (goal.at.overflow_mul-unit c).In-Of in omega (arith, last_fits _ _ b.0 b.1.e_most b.1.m_most)
-
-pub overflow_mul-unit-2 : goal.overflow_mul-unit-2
-overflow_mul-unit-2 c = let b = behind (goal.at.overflow_mul-unit-2 c).In-Of in omega (arith, last_fits _ _ b.0 b.1.e_most b.1.n_most)
+pub returns-in_err-stored : goal.returns-in_err-stored
+returns-in_err-stored c d h =
+    let at = goal.at.returns-in_err-stored c in
+    let p = err_from_is_err_and c.from_residual-in_err-stored.result c.from_residual-in_err-stored.ensures.1 in
+    rw (p.1, p.2)
+    (tells_refusal
+    (by_stored _ _ _ _ _ d h (grid_passed at.In_ok-grid) (sizes_passed at.In_ok-sizes) (rw c.count.ensures at c.if-room-count.false)
+    (same_stored _ (behind at.In_ok-grid) ∙ sym c.in_err-stored.ensures)))
 
 pub positions-requires : goal.positions-requires
 positions-requires c =
-    let at = goal.at.positions-requires c in
-    let b = behind at.In-Of in
-    let s = sides at.In_default-sizes in
-    (last_fits _ _ b.0 b.1.e_most b.1.m_most, last_fits _ _ b.0 b.1.e_most b.1.n_most, omega arith, s.0, s.1)
+    let g = c.in_ok-grid.grid.gridded in
+    let s = sides ((goal.at.positions-requires c).In_ok-sizes) in
+    (last_fits _ _ c.unit-unit.ensures g.e_most g.m_most, last_fits _ _ c.unit-unit.ensures g.e_most g.n_most, c.requires, s.0, s.1)
 
-pub returns-in-Refused-positions : goal.returns-in-Refused-positions
-returns-in-Refused-positions c d h =
-    let at = goal.at.returns-in-Refused-positions c in
-    tells_refusal
-    (by_nodes _ _ _ _ _ d h (grid_none at.In-Of) (sizes_none at.In_default-sizes) c.if-room-columns.false (stored_none at.In_default-stored)
-    (sym c.positions.ensures ∙ ap check c.in-Refused-positions.is))
+pub returns-in_err-positions : goal.returns-in_err-positions
+returns-in_err-positions c d h =
+    let at = goal.at.returns-in_err-positions c in
+    let b = behind at.In_ok-grid in
+    let p = err_from_is_err_and c.from_residual-in_err-positions.result c.from_residual-in_err-positions.ensures.1 in
+    rw (p.1, p.2)
+    (tells_refusal
+    (by_nodes _ _ _ _ _ d h (grid_passed at.In_ok-grid) (sizes_passed at.In_ok-sizes) (rw c.count.ensures at c.if-room-count.false)
+    (same_stored _ b ∙ sym c.in_ok-stored.ensures) (same_nodes _ b ∙ sym (rw c.unit-unit.ensures at c.in_err-positions.ensures))))
 
 pub returns : goal.returns
 returns c d h =
     let at = goal.at.returns c in
-    let b = behind at.In-Of in
-    let stored = stored_none at.In_default-stored in
+    let b = behind at.In_ok-grid in
+    let fits = rw c.count.ensures at c.if-room-count.false in
+    let stored = same_stored _ b ∙ sym c.in_ok-stored.ensures in
+    let none_out = same_nodes _ b ∙ sym (rw c.unit-unit.ensures at c.in_ok-positions.ensures) in
     let s = stored_passed _ _ _ stored in
-    let none_out = sym c.positions.ensures ∙ ap check c.in_default-positions.is in
-    rw c.in-Of.is
-    (tells_exponent (by_nodes _ _ _ _ _ d h (grid_none at.In-Of) (sizes_none at.In_default-sizes) c.if-room-columns.false stored none_out) b.0
-    (record { grounded = record { grid = b.1; long = s.0; ranged = s.1 }; inside = rw b.0 at (nodes_inside _ _ _ none_out); fits = c.if-room-columns.false }))
+    tells_grid (by_nodes _ _ _ _ _ d h (grid_passed at.In_ok-grid) (sizes_passed at.In_ok-sizes) fits stored none_out)
+    (record {
+      m_is = b.m_is;
+      n_is = b.n_is;
+      unit_is = b.unit_is;
+      holds = record { grounded = record { grid = b.holds; long = s.0; ranged = s.1 }; inside = rw b.unit_is at (nodes_inside _ _ _ none_out); fits = fits };
+    })
