@@ -1,4 +1,5 @@
 -- What the proofs of several functions share.
 pub mod Bracket
-pub mod Back
 pub mod Parts
+pub mod Rounded
+pub mod Found

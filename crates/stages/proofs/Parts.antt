@@ -1,11 +1,9 @@
 -- A part of a raster: what one node, and some, add to the sum of depths and to the count of wet nodes.
-use Rattle.std.proofs.Common.{◌≡◌, ap, List, ℕ, zero, suc, ◌+◌, ◌*◌, ◌≤◌, min, add-one, arith, get_or}
-use Rattle.std.proofs.Math.Nat.{add-zero, add-suc}
-use Rattle.std.specs.Prelude.{ℤ, pos, nat_abs}
-use Rattle.rules.specs.Grid.{limit}
+use Rattle.std.proofs.Common.{◌≡◌, sym, ap, ap₂, ◌∙◌, List, ℕ, zero, suc, ◌+◌, min, add-one, arith, get_or}
+use Rattle.std.proofs.Math.Nat.{add-zero, add-suc, add_assoc}
+use Rattle.std.specs.Prelude.{ℤ, pos}
 use Rattle.rules.specs.Storage.{depth, depths}
-use Rattle.rules.specs.Laws.Checks.{AllInRange}
-use Rattle.rules.proofs.Laws.Storage.{depth_most}
+use Rattle.rules.specs.Laws.Checks.{Part}
 use Rattle.rules.specs.Laws.Stage.{wet, wets}
 
 module _ (heights : List ℤ) (stage : ℤ) where
@@ -17,17 +15,11 @@ module _ (heights : List ℤ) (stage : ℤ) where
   unfolding wets wet
   wets_next i = ap (λ n. wets n heights stage) (add-one i)
 
-  module _ (size : nat_abs stage ≤ limit) where
-    pub depths_grow : (i g : ℕ) → AllInRange (i + g) heights
-        → (depths i heights stage ≤ depths (i + g) heights stage) × (depths (i + g) heights stage ≤ depths i heights stage + g * 8_000_000_000)
-    unfolding depths
-    depths_grow i zero all = rw (add-zero i) (omega arith, omega arith)
-    depths_grow i (suc g) all =
-        let before = depths_grow i g (λ k l. all k (omega arith)) in
-        let one = depth_most stage (get_or heights (i + g) (pos 0)) size (all (i + g) (omega arith)) in
-        rw (add-suc i g) (omega (arith, before.0), omega (arith, before.1, one))
-
-  pub wets_grow : (i g : ℕ) → wets i heights stage ≤ wets (i + g) heights stage
-  unfolding wets
-  wets_grow i zero = rw (add-zero i) (omega arith)
-  wets_grow i (suc g) = rw (add-suc i g) (omega (arith, wets_grow i g))
+-- the count so far, and the count of a part that goes on there
+pub wets_part : (i w : ℕ) (heights part : List ℤ) (stage : ℤ) → Part i w heights part → wets (i + w) heights stage ≡ wets i heights stage + wets w part stage
+unfolding wets
+wets_part i zero heights part stage h = ap (λ n. wets n heights stage) (add-zero i) ∙ sym (add-zero (wets i heights stage))
+wets_part i (suc w) heights part stage h =
+    ap (λ n. wets n heights stage) (add-suc i w)
+    ∙ ap₂ (λ a z. a + wet stage z) (wets_part i w heights part stage (λ k l. h k (omega arith))) (sym (h w (omega arith)))
+    ∙ add_assoc (wets i heights stage) (wets w part stage) (wet stage (get_or part w (pos 0)))

@@ -1,6 +1,6 @@
 -- What a stage for a wanted storage promises beyond its contract: it is the only lowest, what storages at it and below it answer, that 18 is given exactly where
 -- no stage stores enough, and what can be refused of the heights of an accepted raster.
-use Rattle.std.specs.Prelude.{◌≡◌, ◌⊎◌, List, ℕ, ◌*◌, ◌≤◌, ◌<◌, ℤ, pos, neg_ℤ, nat_abs, ◌<ℤ◌}
+use Rattle.std.specs.Prelude.{◌≡◌, ◌⊎◌, List, ℕ, ◌*◌, ◌≤◌, ◌<◌, ℤ, pos, neg_ℤ, nat_abs, ◌<ℤ◌, Result}
 use Rattle.std.proofs.Math.Path.{sym}
 use Rattle.std.proofs.Common.{◌∙◌}
 use Rattle.std.proofs.Math.Logic.{⊎_elim, inl, inr}
@@ -11,15 +11,13 @@ use Rattle.rules.specs.Storage.{storage, side_check, pond_check, heights_check, 
 use Rattle.rules.specs.Stage.{LowestStage, enough, stage_for, reach_check, stage_for_check, stage_for_answer}
 use Rattle.rules.proofs.Laws.Checks.{require_refusal, then_refusal, then_none, answer_value, answer_refused, some_answer}
 use Rattle.rules.proofs.Laws.Stage as law
-use Rattle.storage.specs.Told as stored
 use Rattle.storage.specs.Promises as storages
 use Rattle.storage.specs.Sampled.{Sampled}
 use Rattle.storage.proofs.Unrefused.{heights_unrefused, sampled_pond}
-use Rattle.storage.specs.declared.Stored.{Stored}
-use Rattle.stages.specs.Told.{told}
-use Rattle.stages.specs.declared.StageTold.{StageTold}
+use Rattle.answers.specs.Told.{told}
+use Rattle.answers.specs.declared.Refusal as code
 
-module _ (columns rows : ℕ) (heights : List ℤ) (wanted s : ℕ) (r : StageTold) (rules : told r ≡ stage_for_answer columns rows heights wanted s) where
+module _ (columns rows : ℕ) (heights : List ℤ) (wanted s : ℕ) (r : Result ℤ code.Refusal) (rules : told r ≡ stage_for_answer columns rows heights wanted s) where
   module _ (z : ℤ) (is : told r ≡ accepted z) where
     lowest : LowestStage columns rows heights wanted s z
     lowest = law.answer_lowest columns rows heights wanted s z (sym rules ∙ is)
@@ -29,11 +27,11 @@ module _ (columns rows : ℕ) (heights : List ℤ) (wanted s : ℕ) (r : StageTo
     only_lowest y l = law.lowest_unique columns rows heights wanted s y z l lowest
 
     -- a storage at this stage is at least the wanted litres, and one at a lower stage is less
-    pub enough_there : (t : Stored) → stored.told t ≡ storage_answer columns rows heights z s → (v : ℕ) → stored.told t ≡ accepted v → wanted ≤ v
+    pub enough_there : (t : Result ℕ code.Refusal) → told t ≡ storage_answer columns rows heights z s → (v : ℕ) → told t ≡ accepted v → wanted ≤ v
     enough_there t call v e = rw (← storages.stored columns rows heights s z t call v e) lowest.stores
 
     pub less_below : (y : ℤ) → nat_abs y ≤ limit → y <ℤ z
-        → (t : Stored) → stored.told t ≡ storage_answer columns rows heights y s → (v : ℕ) → stored.told t ≡ accepted v → v < wanted
+        → (t : Result ℕ code.Refusal) → told t ≡ storage_answer columns rows heights y s → (v : ℕ) → told t ≡ accepted v → v < wanted
     less_below y size below t call v e = rw (← storages.stored columns rows heights s y t call v e) (lowest.no_lower y size below)
 
     -- "Wanted 0 gives -4,000,000,000"

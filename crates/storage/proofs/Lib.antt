@@ -2,3 +2,5 @@
 pub mod Unrefused
 pub mod Sampled
 pub mod Promises
+pub mod Chunks
+pub mod Front

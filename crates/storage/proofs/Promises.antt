@@ -1,5 +1,5 @@
 -- What a storage promises of an accepted raster: its heights are never refused.
-use Rattle.std.specs.Prelude.{◌≡◌, ℕ, ◌⊎◌, List, ℤ}
+use Rattle.std.specs.Prelude.{◌≡◌, ℕ, ◌⊎◌, List, ℤ, Result}
 use Rattle.std.proofs.Common.{sym, ap, ◌∙◌, arith}
 use Rattle.std.proofs.Math.Logic.{⊎_elim, inl, inr}
 use Rattle.rules.specs.Grid.{within, in_range}
@@ -7,13 +7,13 @@ use Rattle.rules.specs.Answers.{Refusal, side, range, number, place, refused}
 use Rattle.rules.specs.Calls.{stage_check}
 use Rattle.rules.specs.Storage.{storage, side_check, storage_answer}
 use Rattle.rules.proofs.Laws.Checks.{require_refusal, then_refusal, answer_refused}
-use Rattle.storage.specs.Told.{told}
+use Rattle.answers.specs.Told.{told}
+use Rattle.answers.specs.declared.Refusal as code
 use Rattle.storage.specs.Sampled.{Sampled}
 use Rattle.storage.proofs.Sampled.{sampled_answer_lem}
-use Rattle.storage.specs.declared.Stored.{Stored}
 
 -- a call at this stage
-module _ (columns rows : ℕ) (heights : List ℤ) (s : ℕ) (stage : ℤ) (r : Stored) (rules : told r ≡ storage_answer columns rows heights stage s) where
+module _ (columns rows : ℕ) (heights : List ℤ) (s : ℕ) (stage : ℤ) (r : Result ℕ code.Refusal) (rules : told r ≡ storage_answer columns rows heights stage s) where
   -- of the heights of an accepted raster
   module _ (sampled : Sampled columns rows heights) (x : Refusal) (is : told r ≡ refused x) where
     refusals : (x ≡ side) ⊎ (x ≡ range 0)

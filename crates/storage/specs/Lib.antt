@@ -1,4 +1,3 @@
 pub mod Over
-pub mod Told
 pub mod Sampled
 pub mod Promises

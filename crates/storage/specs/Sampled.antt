@@ -1,12 +1,11 @@
 -- A raster as it is promised: what an accepted call of `raster` leaves, in the words of its contract; and what of it storage can then refuse.
-use Rattle.std.specs.Prelude.{◌≡◌, ℕ, ◌*◌, List, ℤ, refl}
+use Rattle.std.specs.Prelude.{◌≡◌, ℕ, ◌*◌, List, ℤ, refl, Result, Ok}
 use Rattle.std.proofs.Math.Option.{none}
 use Rattle.rules.specs.Answers.{◌then◌, Answer, accepted, answer, outcome, call}
 use Rattle.rules.specs.Calls.{nodes, raster_check, raster_call, stage_check}
 use Rattle.rules.specs.Storage.{storage, side_check}
-use Rattle.answers.specs.CountTold.{told}
-use Rattle.answers.specs.declared.CountTold.{CountTold}
-use Rattle.answers.specs.declared.CountTold.TheVariants.{Count}
+use Rattle.answers.specs.Told.{told}
+use Rattle.answers.specs.declared.Refusal.{Refusal}
 
 -- these heights are what an accepted raster of so many columns and rows has left in the slice that it was lent
 pub record Sampled (columns rows : ℕ) (heights : List ℤ) : Type 0 where
@@ -18,7 +17,7 @@ pub record Sampled (columns rows : ℕ) (heights : List ℤ) : Type 0 where
   pub y0 : ℕ
   pub step : ℕ
   pub lent : List ℤ
-  pub answered : CountTold
+  pub answered : Result ℕ Refusal
   pub rules : outcome (told answered) heights ≡ raster_call m n unit lattice (nodes x0 y0 step columns rows) lent
   pub count : ℕ
   pub is : told answered ≡ accepted count
@@ -36,7 +35,7 @@ sampled m n U l x0 y0 step columns rows d e = record {
   y0 = y0;
   step = step;
   lent = d;
-  answered = Count (columns * rows);
+  answered = Ok (columns * rows);
   rules = rw e refl;
   count = columns * rows;
   is = refl;

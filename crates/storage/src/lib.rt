@@ -8,32 +8,17 @@ ghost use Rattle.rules.specs.Storage as rule;
 ghost use Rattle.rules.specs.Laws.Checks.{AllInRange};
 ghost use Rattle.answers.specs.Cause.{check};
 ghost use Rattle.storage.specs.Over.{Over};
-ghost use Rattle.storage.specs.Told.{told, sum_told};
+ghost use Rattle.answers.specs.Told.{told};
 ghost use Rattle.storage.specs.Sampled.{Sampled, sampled_answer};
 
-use answers::{Refusal, Verdict};
-use range::Found;
-
-// What is told of a raster's storage.
-#[derive(Drop)]
-pub enum Stored {
-    Litres(u64),
-    Refused(Refusal),
-}
-
-// What is told of its sum of depths.
-#[derive(Drop)]
-enum Summed {
-    Sum(u64),
-    Refused(Refusal),
-}
+use answers::Refusal;
 
 // 64 bits of how far a height is over the stage: the top one is 1 exactly where the node is wet.
 fn over(stage: i64, height: i64) -> u64
     requires { (unsigned_abs stage ≤ limit) × (unsigned_abs height ≤ limit) }
     ensures { Over stage height result }
 {
-    std::num::wrapping_sub_u64(codec::to_bits(height), codec::to_bits(stage))
+    codec::to_bits(height).wrapping_sub(codec::to_bits(stage))
 }
 
 // 64 ones where the node is wet, and else none: 0 less the top bit.
@@ -41,7 +26,7 @@ fn wet_mask(stage: i64, height: i64) -> u64
     requires { (unsigned_abs stage ≤ limit) × (unsigned_abs height ≤ limit) }
     ensures { result ≡ min 1 (rule.depth stage height) * 18_446_744_073_709_551_615 }
 {
-    std::num::wrapping_sub_u64(0, over(stage, height) >> 63)
+    0u64.wrapping_sub(over(stage, height) >> 63)
 }
 
 // "Depth at a node is stage less height where positive, else 0". No sign is tested, so that a sum of depths is fast: the mask keeps all bits of height less
@@ -51,16 +36,17 @@ pub fn depth(stage: i64, height: i64) -> u64
     requires { (unsigned_abs stage ≤ limit) × (unsigned_abs height ≤ limit) }
     ensures { result ≡ rule.depth stage height }
 {
-    std::num::wrapping_sub_u64(0, over(stage, height) & wet_mask(stage, height))
+    0u64.wrapping_sub(over(stage, height) & wet_mask(stage, height))
 }
 
-// A depth, and 2^40 with it where the node is wet: a sum of few has both the sum of depths and how many nodes are wet.
+// A depth, and 2^40 with it where the node is wet: a sum of few has both the sum of depths and how many nodes are wet. `depth` stands by itself and not as
+// this with a mark of 0: that would be a third function, with a bound on its mark.
 pub fn marked_depth(stage: i64, height: i64) -> u64
     requires { (unsigned_abs stage ≤ limit) × (unsigned_abs height ≤ limit) }
     ensures { result ≡ rule.depth stage height + min 1 (rule.depth stage height) * 1_099_511_627_776 }
 {
-    let marked = std::num::wrapping_sub_u64(over(stage, height), 1_099_511_627_776);
-    std::num::wrapping_sub_u64(0, marked & wet_mask(stage, height))
+    let marked = over(stage, height).wrapping_sub(1_099_511_627_776);
+    0u64.wrapping_sub(marked & wet_mask(stage, height))
 }
 
 // The sum of depths over a raster that has passed its checks.
@@ -69,10 +55,8 @@ pub fn depth_sum(heights: &[i64], stage: i64) -> u64
     ensures { result ≡ rule.depths (length heights.now) heights.now stage }
 {
     let mut sum = 0u64;
-    let mut i = 0;
-    while i < heights.len() {
-        sum += depth(stage, heights[i]);
-        i += 1;
+    for height in heights {
+        sum += depth(stage, *height);
     }
     sum
 }
@@ -88,57 +72,55 @@ pub fn litres(sum: u64, side: usize) -> u64
 
 // 6 over the heights, and the sum of depths where they are all in range: 64 at a time are looked over and then added up, so that the raster is fetched
 // once.
-fn checked_sum(heights: &[i64], count: usize, stage: i64) -> Summed
-    requires { (count ≤ length heights.now) × (count ≤ 8_193 * 8_193) × (unsigned_abs stage ≤ limit) }
-    ensures { sum_told result ≡ answer (rule.heights_check count heights.now) (rule.depths count heights.now stage) }
+fn checked_sum(heights: &[i64], stage: i64) -> Result<u64, Refusal>
+    requires { (length heights.now ≤ 8_193 * 8_193) × (unsigned_abs stage ≤ limit) }
+    ensures { told result ≡ answer (rule.heights_check (length heights.now) heights.now) (rule.depths (length heights.now) heights.now stage) }
 {
     let mut sum = 0u64;
-    let mut i = 0;
-    while i < count {
-        let w = machine::lesser(count - i, 64);
-        let block = &heights[i..i + w];
-        if let Found::At(k) = range::first_out(block, w) {
-            return Summed::Refused(Refusal::Range(i + k + 1));
+    for (b, block) in heights.chunks(64).enumerate() {
+        if let Some(k) = range::first_out(block, block.len()) {
+            return Err(Refusal::Range(64 * b + k + 1));
         }
         sum += depth_sum(block, stage);
-        i += w;
     }
-    Summed::Sum(sum)
+    Ok(sum)
 }
 
-// 8, 4 and 16: what does not depend on the stage or on any height. A raster tests its columns and rows by itself (`nodes::sizes`): a function for both
-// gives the raster's loops other registers, and they are slower.
-pub fn pond_checks(columns: usize, rows: usize, heights: &[i64], side: usize) -> Verdict
+// 8, 4 and 16: what does not depend on the stage or on any height. A raster tests its columns and rows by itself (`Nodes::sizes`): a function for both
+// gives the raster's loops other registers, and they are slower. The four are no struct: three functions take them once.
+pub fn pond_checks(columns: usize, rows: usize, heights: &[i64], side: usize) -> Result<(), Refusal>
     ensures { check result ≡ rule.pond_check columns rows heights.now side }
 {
     if 8_193 < columns {
-        return Verdict::Refused(Refusal::Size);
+        return Err(Refusal::Size);
     }
     if 8_193 < rows {
-        return Verdict::Refused(Refusal::Size);
+        return Err(Refusal::Size);
     }
     if heights.len() < columns * rows {
-        return Verdict::Refused(Refusal::Short);
+        return Err(Refusal::Short);
     }
     if !checks::within(1, 100, side) {
-        return Verdict::Refused(Refusal::Side);
+        return Err(Refusal::Side);
     }
-    Verdict::Fine
+    Ok(())
 }
 
 // Of the heights that an accepted raster left none is refused: only the side and the stage can be.
-pub fn storage(columns: usize, rows: usize, heights: &[i64], stage: i64, side: usize) -> Stored
+pub fn storage(
+    columns: usize,
+    rows: usize,
+    heights: &[i64],
+    stage: i64,
+    side: usize,
+) -> Result<u64, Refusal>
     ensures answer { told result ≡ rule.storage_answer columns rows heights.now stage side }
     ensures sampled { Sampled columns rows heights.now → told result ≡ sampled_answer columns rows heights.now stage side }
 {
-    if let Verdict::Refused(r) = pond_checks(columns, rows, heights, side) {
-        return Stored::Refused(r);
-    }
+    pond_checks(columns, rows, heights, side)?;
     if !range::in_range(stage) {
-        return Stored::Refused(Refusal::Range(0));
+        return Err(Refusal::Range(0));
     }
-    match checked_sum(heights, columns * rows, stage) {
-        Summed::Sum(sum) => Stored::Litres(litres(sum, side)),
-        Summed::Refused(r) => Stored::Refused(r),
-    }
+    let sum = checked_sum(&heights[..columns * rows], stage)?;
+    Ok(litres(sum, side))
 }

@@ -1,4 +1,4 @@
-use Rattle.std.proofs.Common.{◌≡◌, ℕ, ◌+◌, ◌-◌, ◌≤◌, ◌<◌, List, get_or, sym, ap, subst, ◌∙◌, le_trans, arith, to_z, of_z}
+use Rattle.std.proofs.Common.{◌≡◌, ℕ, ◌+◌, ◌-◌, ◌≤◌, ◌<◌, List, length, get_or, ap, subst, ◌∙◌, le_trans, arith, to_z, of_z}
 use Rattle.std.proofs.Math.Decide.{dec_lt}
 use Rattle.std.specs.Prelude.{ℤ, pos, nat_abs, ◌+ℤ◌, ◌≤ℤ◌}
 use Rattle.std.specs.Int.{w64}
@@ -10,6 +10,7 @@ use Rattle.machine.specs.Held.{Held, itself, literal, read, plus, small}
 use Rattle.rules.specs.Grid.{limit}
 use Rattle.rules.specs.Storage.{depth}
 use Rattle.rules.specs.Stage.{stage_at}
+use Rattle.rules.specs.Laws.Checks.{AllInRange}
 use Rattle.stages.proofs.dry_number.Invariants.{Reaches}
 use Rattle.stages.proofs.dry_number.Goals as goal
 
@@ -53,29 +54,46 @@ module _ (z : ℤ) (size : nat_abs z ≤ limit) where
 
 -- ---- what it finds
 
-pub loop-i-preserved : goal.loop-i-preserved
-loop-i-preserved c =
+pub loop-height-preserved : goal.loop-height-preserved
+loop-height-preserved c =
     let heights = c.args.heights.now in
-    let l = c.loop-i in
+    let l = c.loop-height in
+    let i = l.height-index in
     let first = to_z w64 (of_z w64 (get_or heights 0 (pos 0))) in
     let least = or_least l.deepest c.depth-deepest.result in
-    let depth_is = c.depth-deepest.ensures ∙ ap (depth first) (held (get_or heights l.i (pos 0)) (c.requires.1 l.i c.loop-i-test.true)).is in (
-      omega arith,
-      grown first heights l.i l.deepest _ l.invariant.1 least.0 (subst (λ d. d ≤ bit_or l.deepest c.depth-deepest.result) depth_is least.1),
-    )
+    let depth_is = c.depth-deepest.ensures ∙ ap (depth first) (held (get_or heights i (pos 0)) (c.requires.0 i c.loop-height-test.true)).is in
+    grown first heights i l.deepest _ l.invariant least.0 (subst (λ d. d ≤ bit_or l.deepest c.depth-deepest.result) depth_is least.1)
 
-pub returns-then-number-deepest : goal.returns-then-number-deepest
-returns-then-number-deepest c = (omega arith, λ i l. lowest_below (get_or c.args.heights.now i (pos 0)) (c.requires.1 i l))
+-- the depths taken from the first height's number, or none where they are more
+module _ (heights : List ℤ) (all : AllInRange (length heights) heights) (some : 0 < length heights) where
+  abbrev first : ℤ
+  first = to_z w64 (of_z w64 (get_or heights 0 (pos 0)))
 
-pub returns-else-number-deepest : goal.returns-else-number-deepest
-returns-else-number-deepest c =
+  abbrev number : ℕ
+  number = nat_abs (to_z w64 (of_z w64 (first +ℤ pos 4_000_000_000)))
+
+  number_fits : number ≤ 8_000_000_000
+  number_fits =
+      let z = get_or heights 0 (pos 0) in
+      let size = all 0 some in
+      omega (arith, number_is z size, number_most (back z size) (back_size z size))
+
+  below : {r deepest : ℕ} → r ≡ number - deepest → Reaches first heights (length heights) deepest → (i : ℕ) → i < length heights → stage_at r ≤ℤ get_or heights i (pos 0)
+  below {r} {deepest} is reaches i l = go (dec_lt number deepest)
+    where
+      go : Dec (number < deepest) → stage_at r ≤ℤ get_or heights i (pos 0)
+      go (yes k) = let none : r ≡ 0 = omega arith in rw none (lowest_below (get_or heights i (pos 0)) (all i l))
+      go (no k) =
+          let z = get_or heights 0 (pos 0) in
+          let size = all 0 some in
+          let e = number_is z size in
+          let same : r ≡ nat_abs (back z size +ℤ pos 4_000_000_000) - deepest = is ∙ ap (λ v. v - deepest) e in
+          rw same (below_first (back z size) (get_or heights i (pos 0)) deepest (back_size z size) (omega (arith, e)) (reaches i l))
+
+pub returns : goal.returns
+returns c =
     let heights = c.args.heights.now in
-    let l = c.loop-i in
-    let z = get_or heights 0 (pos 0) in
-    let size = c.requires.1 0 c.requires.2 in
-    let is = number_is z size in (
-      omega (arith, is, number_most (back z size) (back_size z size)),
-      λ i k.
-          subst (λ v. stage_at (v - l.deepest) ≤ℤ get_or heights i (pos 0)) (sym is)
-          (below_first (back z size) (get_or heights i (pos 0)) l.deepest (back_size z size) (omega (arith, is, c.if-number-deepest.false)) (l.invariant.1 i (omega arith))),
-    )
+    let l = c.loop-height in
+    let q = c.requires in
+    let all : l.height-index ≡ length heights = omega arith in
+    (omega (arith, c.saturating_sub.ensures, number_fits heights q.0 q.1), below heights q.0 q.1 c.saturating_sub.ensures (rw all at l.invariant))

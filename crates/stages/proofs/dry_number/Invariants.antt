@@ -1,5 +1,5 @@
--- The loop keeps: the "or" is no less than any depth passed.
-use Rattle.std.proofs.Common.{ℕ, ◌-◌, ◌≤◌, ◌<◌, List, get_or}
+-- The "or" is no less than any depth passed.
+use Rattle.std.proofs.Common.{ℕ, ◌≤◌, ◌<◌, List, get_or}
 use Rattle.std.specs.Prelude.{ℤ, pos}
 use Rattle.rules.specs.Storage.{depth}
 use Rattle.stages.proofs.dry_number.Given as goal
@@ -8,8 +8,5 @@ use Rattle.stages.proofs.dry_number.Given as goal
 abbrev pub Reaches : ℤ → List ℤ → ℕ → ℕ → Type 0
 Reaches first heights i deepest = (j : ℕ) → j < i → depth first (get_or heights j (pos 0)) ≤ deepest
 
-abbrev pub invariant-loop-i : goal.invariant-loop-i
-invariant-loop-i l = (l.i ≤ l.n) × Reaches l.first l.heights l.i l.deepest
-
-abbrev pub decreases-loop-i : goal.decreases-loop-i
-decreases-loop-i l = l.n - l.i
+abbrev pub invariant-loop-height : goal.invariant-loop-height
+invariant-loop-height l = Reaches l.first l.heights l.height-index l.deepest

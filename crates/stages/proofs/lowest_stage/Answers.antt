@@ -1,18 +1,19 @@
 -- A sum stores the wanted litres exactly if it is at least the needed one.
-use Rattle.std.proofs.Common.{◌≡◌, ℕ, ◌*◌, ◌≤◌, ◌<◌, false, leb, List, refl, sym, ap, ◌∙◌, le_trans, arith}
+use Rattle.std.proofs.Common.{◌≡◌, ℕ, ◌*◌, ◌≤◌, ◌<◌, false, leb, List, length, refl, sym, ap, ◌∙◌, le_trans, arith}
 use Rattle.std.proofs.Math.Nat.{not-suc-le-zero}
 use Rattle.std.proofs.Math.Decide.{dec_lt}
 use Rattle.std.proofs.Math.Logic.{inl, inr}
 use Rattle.std.proofs.lemmas.Bool.{le-leb, lt-leb}
-use Rattle.std.specs.Prelude.{ℤ, pos, negsuc}
+use Rattle.std.specs.Prelude.{ℤ, negsuc}
 use Rattle.rules.specs.Storage.{depths, litres}
 use Rattle.rules.specs.Stage.{lowest_of, stage_at}
 use Rattle.rules.specs.Laws.Checks.{AllInRange}
 use Rattle.rules.proofs.Laws.Storage.{litres_rise, depths_most}
 use Rattle.rules.specs.Laws.Stage.{needed_sum}
-use Rattle.rules.proofs.Laws.Stage.{lowest_of_found, lowest_of_most, lowest_of_same, stage_in_range, needed_some}
+use Rattle.rules.proofs.Laws.Stage.{lowest_of_found, lowest_of_same, stage_in_range, needed_some}
 use Rattle.rules.proofs.Laws.Needed.{needed_stores}
-use Rattle.stages.proofs.Back.{stage_back}
+use Rattle.stages.specs.Numbered.{stage_numbered}
+use Rattle.stages.proofs.Found.{some_found, none_found}
 use Rattle.stages.proofs.lowest_stage.Goals as goal
 
 module _ (heights : List ℤ) (n wanted side : ℕ) where
@@ -50,30 +51,25 @@ module _ (heights : List ℤ) (n wanted side : ℕ) where
       lowest_of_same 8_000_000_001 (λ k. leb (needed_sum wanted side) (depths n heights (stage_at k))) (λ k. leb wanted (litres (depths n heights (stage_at k)) side))
       (λ k. sym (same_test h (depths n heights (stage_at k))))
 
--- the lowest stage, and the one past the highest
+-- the lowest stage
 lowest_is : negsuc 3_999_999_999 ≡ stage_at 0
 unfolding stage_at
 lowest_is = refl
 
-none_is : pos 4_000_000_001 ≡ stage_at 8_000_000_001
-unfolding stage_at
-none_is = refl
-
 pub returns-then-wanted-eq0 : goal.returns-then-wanted-eq0
-returns-then-wanted-eq0 c = let a = c.args in lowest_is ∙ ap stage_at (none_wanted a.heights.now a.n a.wanted a.side (omega arith))
+returns-then-wanted-eq0 c = let a = c.args in some_found lowest_is (none_wanted a.heights.now (length a.heights.now) a.wanted a.side (omega arith)) (omega arith)
 
 pub returns-then-litres-wanted : goal.returns-then-litres-wanted
 returns-then-litres-wanted c =
     let a = c.args in
-    none_is ∙ ap stage_at (too_much a.heights.now a.n a.wanted a.side c.requires.2 (omega (arith, c.litres.ensures, c.if-litres-wanted.true)))
+    none_found (sym (too_much a.heights.now (length a.heights.now) a.wanted a.side c.requires.1 (omega (arith, c.litres.ensures, c.if-litres-wanted.true))))
 
 pub returns : goal.returns
 returns c =
     let a = c.args in
-    stage_back c.search.result (number a.heights.now a.n a.wanted a.side) (lowest_of_most 8_000_000_001 _)
-    (c.search.ensures
-    ∙ ap (λ v. stage_at (lowest_of 8_000_000_001 (λ k. leb v (depths a.n a.heights.now (stage_at k))))) c.needed_sum.ensures
-    ∙ ap stage_at (as_searched a.heights.now a.n a.wanted a.side c.requires.3))
+    c.search.ensures
+    ∙ ap (λ v. stage_numbered (lowest_of 8_000_000_001 (λ k. leb v (depths (length a.heights.now) a.heights.now (stage_at k))))) c.needed_sum.ensures
+    ∙ ap stage_numbered (as_searched a.heights.now (length a.heights.now) a.wanted a.side c.requires.2)
 
 -- ---- what its steps ask
 
@@ -86,14 +82,14 @@ pub needed_sum-requires : goal.needed_sum-requires
 needed_sum-requires c =
     let a = c.args in
     let q = c.requires in
-    let within : a.wanted ≤ litres (a.n * 8_000_000_000) a.side = omega (arith, c.litres.ensures, c.if-litres-wanted.false) in
-    (q.3, q.4, le_trans within (litres_rise a.side (omega (arith, q.1))))
+    let within : a.wanted ≤ litres (length a.heights.now * 8_000_000_000) a.side = omega (arith, c.litres.ensures, c.if-litres-wanted.false) in
+    (q.2, q.3, le_trans within (litres_rise a.side (omega (arith, q.0))))
 
 pub search-requires : goal.search-requires
 search-requires c =
     let a = c.args in
     let q = c.requires in
-    let within : a.wanted ≤ litres (a.n * 8_000_000_000) a.side = omega (arith, c.litres.ensures, c.if-litres-wanted.false) in
-    let some = needed_some a.wanted a.side q.3 (omega arith) in
-    let most = least_most a.n a.wanted a.side q.3 within in
-    (q.0, q.1, q.2, omega (arith, some, most), omega (arith, c.needed_sum.ensures, some), omega (arith, c.needed_sum.ensures, most, q.1))
+    let within : a.wanted ≤ litres (length a.heights.now * 8_000_000_000) a.side = omega (arith, c.litres.ensures, c.if-litres-wanted.false) in
+    let some = needed_some a.wanted a.side q.2 (omega arith) in
+    let most = least_most (length a.heights.now) a.wanted a.side q.2 within in
+    (q.0, q.1, omega (arith, some, most), omega (arith, c.needed_sum.ensures, some), omega (arith, c.needed_sum.ensures, most, q.0))

@@ -1,11 +1,16 @@
--- The loop keeps: both sums are those of the heights passed.
-use Rattle.std.proofs.Common.{◌≡◌, ◌-◌, ◌≤◌}
+-- Both sums are those of the heights before what is left, which is as many as the whole, less some blocks.
+use Rattle.std.proofs.Common.{◌≡◌, ◌-◌, ◌%◌, ◌≤◌, drop, length}
+use Rattle.std.specs.Slice.Iter.{chunks_exact_rest, chunks_exact_size}
 use Rattle.rules.specs.Storage.{depths}
 use Rattle.rules.specs.Laws.Stage.{wets}
 use Rattle.stages.proofs.pond_at.Given as goal
 
-abbrev pub invariant-loop-i : goal.invariant-loop-i
-invariant-loop-i l = (l.sum ≡ depths l.i l.heights l.stage) × (l.wet ≡ wets l.i l.heights l.stage) × (l.i ≤ l.n)
-
-abbrev pub decreases-loop-i : goal.decreases-loop-i
-decreases-loop-i l = l.n - l.i
+abbrev pub invariant-loop-block : goal.invariant-loop-block
+invariant-loop-block l = record {
+  size : chunks_exact_size l.block-iterator ≡ 64;
+  few : length (chunks_exact_rest l.block-iterator) ≤ length l.heights;
+  whole_blocks : length (chunks_exact_rest l.block-iterator) % 64 ≡ length l.heights % 64;
+  rest : chunks_exact_rest l.block-iterator ≡ drop (length l.heights - length (chunks_exact_rest l.block-iterator)) l.heights;
+  sum : l.sum ≡ depths (length l.heights - length (chunks_exact_rest l.block-iterator)) l.heights l.stage;
+  wet : l.wet ≡ wets (length l.heights - length (chunks_exact_rest l.block-iterator)) l.heights l.stage;
+}

@@ -1,7 +1,7 @@
-use Rattle.std.proofs.Common.{◌≡◌, ℕ, ◌+◌, ◌-◌, ◌/◌, ◌^◌, ◌≤◌, ◌<◌, leb, List, get_or, refl, sym, ap, subst, ◌∙◌, arith, to_z, of_z}
+use Rattle.std.proofs.Common.{◌≡◌, ℕ, ◌+◌, ◌-◌, ◌/◌, ◌^◌, ◌≤◌, ◌<◌, leb, List, length, get_or, refl, sym, ap, subst, ◌∙◌, arith, to_z, of_z}
 use Rattle.std.proofs.Math.Nat.{not-suc-le-zero}
 use Rattle.std.proofs.Math.Logic.{inl}
-use Rattle.std.specs.Prelude.{ℤ, pos, ◌-ℤ◌}
+use Rattle.std.specs.Prelude.{ℤ, pos, ◌-ℤ◌, Some}
 use Rattle.std.specs.Int.{w64}
 use Rattle.algebra.specs.Size.{nat_abs_range}
 use Rattle.machine.specs.Held.{literal, cast, read, minus}
@@ -12,6 +12,9 @@ use Rattle.rules.specs.Laws.Checks.{AllInRange}
 use Rattle.rules.specs.Laws.Stage.{wets}
 use Rattle.rules.proofs.Laws.Stage.{wets_most, sum_none}
 use Rattle.stages.proofs.Bracket.{Bracket, middle_in, lower_half, upper_half, shut, risen_some, risen_most, raised, wet_some, fallen_most, lowered, is_lowest}
+use Rattle.stages.specs.Numbered.{stage_numbered}
+use Rattle.stages.proofs.Found.{some_found, none_found}
+use Rattle.stages.proofs.Rounded.{rounded_up}
 use Rattle.stages.proofs.search.Goals as goal
 
 -- ---- a stage from its number
@@ -53,12 +56,14 @@ loop-low-init c =
     let a = c.args in
     let q = c.requires in
     let heights = a.heights.now in
-    let none_wet = sum_none heights a.n c.dry_number.result c.dry_number.ensures.1 in (
-      first_bracket heights a.n a.needed q.3 q.4 c.dry_number.result none_wet c.ceiling.ensures,
+    let n = length heights in
+    let none_wet = sum_none heights n c.dry_number.result c.dry_number.ensures.1 in
+    let up = c.div_ceil.ensures ∙ rounded_up a.needed n q.2 in (
+      first_bracket heights n a.needed q.2 q.3 c.dry_number.result none_wet up,
       omega arith,
-      q.3,
-      q.1,
-      omega (arith, c.dry_number.ensures.0, up_most heights a.n a.needed q.3 q.4 c.dry_number.result none_wet c.ceiling.ensures, q.5),
+      q.2,
+      q.0,
+      omega (arith, c.dry_number.ensures.0, up_most heights n a.needed q.2 q.3 c.dry_number.result none_wet up, q.4),
     )
 
 -- ---- a turn: the middle of the bracket is tried
@@ -108,20 +113,22 @@ module _ {heights : List ℤ} {n needed low high most : ℕ} (b : Bracket height
     lower_few : k - (sum - needed) / wet - low < 2 ^ (left - 1)
     lower_few = omega (arith, lower_half left open_yet few)
 
-    lowest : sum - needed < wet → stage ≡ stage_at (lowest_of 8_000_000_001 (λ k. leb needed (depths n heights (stage_at k))))
-    lowest less = stage_is k k_most ∙ ap stage_at (is_lowest b k _ (sum_is told) _ (wet_is told_wet) enough some (dry heights n all) less (middle_in left open_yet few).1)
+    lowest : sum - needed < wet → Some stage ≡ stage_numbered (lowest_of 8_000_000_001 (λ k. leb needed (depths n heights (stage_at k))))
+    lowest less =
+        let in_bracket = (middle_in left open_yet few).1 in
+        some_found (stage_is k k_most) (is_lowest b k _ (sum_is told) _ (wet_is told_wet) enough some (dry heights n all) less in_bracket) (omega (arith, in_bracket, b.last))
 
 pub loop-low-preserved-then-tried-needed : goal.loop-low-preserved-then-tried-needed
 loop-low-preserved-then-tried-needed c =
     let l = c.loop-low in
     let i = l.invariant in
     let told = c.pond_at-tried.ensures.sum_of_depths in
-    let up = c.ceiling-then-tried-needed.ensures in (
+    let up = c.div_ceil-then-tried-needed.ensures ∙ rounded_up (c.args.needed - c.pond_at-tried.result.sum) l.most i.2 in (
       upper i.0 l.left c.loop-low-test.true i.1 told c.if-tried-needed.true i.2 up,
       upper_few i.0 l.left c.loop-low-test.true i.1 told c.if-tried-needed.true i.2 up,
       i.2,
       i.3,
-      omega (arith, k_most i.0 l.left c.loop-low-test.true i.1, up_below i.0 l.left c.loop-low-test.true i.1 told c.if-tried-needed.true i.2 up, c.requires.5),
+      omega (arith, k_most i.0 l.left c.loop-low-test.true i.1, up_below i.0 l.left c.loop-low-test.true i.1 told c.if-tried-needed.true i.2 up, c.requires.4),
     )
 
 pub loop-low-preserved : goal.loop-low-preserved
@@ -131,10 +138,10 @@ loop-low-preserved c =
     let q = c.requires in
     let told = c.pond_at-tried.ensures.sum_of_depths in
     let wet = c.pond_at-tried.ensures.wet_count in (
-      lower i.0 l.left c.loop-low-test.true i.1 told wet c.if-tried-needed.false q.4 q.2,
-      lower_few i.0 l.left c.loop-low-test.true i.1 told wet c.if-tried-needed.false q.4 q.2,
-      nodes_wet i.0 l.left c.loop-low-test.true i.1 told wet c.if-tried-needed.false q.4 q.2,
-      rw wet (omega (arith, wets_most c.args.heights.now c.args.n (stage i.0 l.left c.loop-low-test.true i.1), q.1)),
+      lower i.0 l.left c.loop-low-test.true i.1 told wet c.if-tried-needed.false q.3 q.1,
+      lower_few i.0 l.left c.loop-low-test.true i.1 told wet c.if-tried-needed.false q.3 q.1,
+      nodes_wet i.0 l.left c.loop-low-test.true i.1 told wet c.if-tried-needed.false q.3 q.1,
+      rw wet (omega (arith, wets_most c.args.heights.now (length c.args.heights.now) (stage i.0 l.left c.loop-low-test.true i.1), q.1)),
       i.4,
     )
 
@@ -145,12 +152,15 @@ returns-then-spare-tried c =
     let q = c.requires in
     let told = c.pond_at-tried.ensures.sum_of_depths in
     let wet = c.pond_at-tried.ensures.wet_count in
-    lowest i.0 l.left c.loop-low-test.true i.1 told wet c.if-tried-needed.false q.4 q.2 c.if-spare-tried.true
+    lowest i.0 l.left c.loop-low-test.true i.1 told wet c.if-tried-needed.false q.3 q.1 c.if-spare-tried.true
+
+pub returns-then-high-eq8000000001 : goal.returns-then-high-eq8000000001
+returns-then-high-eq8000000001 c = none_found (sym (shut c.loop-low.invariant.0 (omega arith)) ∙ c.if-high-eq8000000001.true)
 
 pub returns : goal.returns
 returns c =
     let l = c.loop-low in
-    stage_is l.high l.invariant.0.last ∙ ap stage_at (shut l.invariant.0 (omega arith))
+    some_found (stage_is l.high l.invariant.0.last) (shut l.invariant.0 (omega arith)) (omega (arith, l.invariant.0.last, c.if-high-eq8000000001.false))
 
 -- ---- what its steps ask
 
@@ -161,7 +171,7 @@ nonzero_div-high c =
     let q = c.requires in
     let told = c.pond_at-tried.ensures.sum_of_depths in
     let wet = c.pond_at-tried.ensures.wet_count in
-    nodes_wet i.0 l.left c.loop-low-test.true i.1 told wet c.if-tried-needed.false q.4 q.2
+    nodes_wet i.0 l.left c.loop-low-test.true i.1 told wet c.if-tried-needed.false q.3 q.1
 
 pub overflow_sub-high : goal.overflow_sub-high
 overflow_sub-high c =
@@ -170,4 +180,4 @@ overflow_sub-high c =
     let q = c.requires in
     let told = c.pond_at-tried.ensures.sum_of_depths in
     let wet = c.pond_at-tried.ensures.wet_count in
-    down_most i.0 l.left c.loop-low-test.true i.1 told wet c.if-tried-needed.false q.4 q.2
+    down_most i.0 l.left c.loop-low-test.true i.1 told wet c.if-tried-needed.false q.3 q.1

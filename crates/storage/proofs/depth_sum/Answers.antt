@@ -34,25 +34,25 @@ module _ (heights : List ℤ) (z : ℤ) (few : length heights ≤ 8_193 * 8_193)
 
 -- ---- what it adds up
 
-pub loop-i-init : goal.loop-i-init
+pub loop-height-init : goal.loop-height-init
 unfolding rule.depths
-loop-i-init c = (refl, omega arith)
+loop-height-init c = refl
 
-pub loop-i-preserved : goal.loop-i-preserved
+pub loop-height-preserved : goal.loop-height-preserved
 unfolding rule.depths
-loop-i-preserved c =
-    let l = c.loop-i in
+loop-height-preserved c =
+    let l = c.loop-height in
     let a = c.args in
     let heights = a.heights.now in
     let r = c.requires in
-    (ap₂ ◌+◌ l.invariant.0 (depth_is heights a.stage r.0 r.1 r.2 l.i c.loop-i-test.true c.depth-sum.ensures) ∙ ap (λ n. rule.depths n heights (to_z w64 (of_z w64 a.stage))) (sym (add-one l.i)), omega arith)
+    ap₂ ◌+◌ l.invariant (depth_is heights a.stage r.0 r.1 r.2 l.height-index c.loop-height-test.true c.depth-sum.ensures) ∙ ap (λ n. rule.depths n heights (to_z w64 (of_z w64 a.stage))) (sym (add-one l.height-index))
 
 -- ---- what its steps ask
 
 pub overflow_add-sum : goal.overflow_add-sum
 overflow_add-sum c =
-    let l = c.loop-i in
+    let l = c.loop-height in
     let a = c.args in
     let heights = a.heights.now in
     let r = c.requires in
-    omega (arith, sum_fits heights a.stage r.0 r.1 r.2 l.i c.loop-i-test.true, depth_fits heights a.stage r.0 r.1 r.2 l.i c.loop-i-test.true c.depth-sum.ensures)
+    omega (arith, sum_fits heights a.stage r.0 r.1 r.2 l.height-index c.loop-height-test.true, depth_fits heights a.stage r.0 r.1 r.2 l.height-index c.loop-height-test.true c.depth-sum.ensures)

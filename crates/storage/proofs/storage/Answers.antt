@@ -1,5 +1,6 @@
 -- The checks go in their order, and of a raster as it is promised only two of them can refuse.
-use Rattle.std.proofs.Common.{◌≡◌, ℕ, ◌*◌, ◌≤◌, true, false, List, refl, sym, ap, ◌∙◌, arith, to_z, of_z}
+use Rattle.std.proofs.Common.{◌≡◌, ℕ, ◌*◌, ◌≤◌, true, false, List, length, refl, sym, ap, ap₂, ◌∙◌, arith, to_z, of_z}
+use Rattle.std.proofs.lemmas.Result.{err_from_is_err_and}
 use Rattle.std.proofs.Math.Option.{none, some}
 use Rattle.std.specs.Prelude.{ℤ}
 use Rattle.std.specs.Int.{w64}
@@ -13,7 +14,9 @@ use Rattle.rules.proofs.Laws.Passed.{stage_passed}
 use Rattle.rules.proofs.Laws.Storage.{sum_most, pond_passed, heights_passed}
 use Rattle.storage.specs.Sampled.{Sampled, sampled_answer}
 use Rattle.storage.proofs.Sampled.{sampled_answer_lem}
+use Rattle.storage.proofs.Front.{front, front_length, front_check, front_depths}
 use Rattle.storage.proofs.storage.Goals as goal
+use Rattle.storage.proofs.storage.Goals.{Else-not-in_range}
 
 -- ---- the answer, by what was found
 
@@ -73,38 +76,60 @@ staged : (stage : ℤ) → to_z w64 (of_z w64 stage) ≡ stage → true ≡ in_r
 unfolding stage_check require
 staged stage is e = ap (λ b. require b (range 0)) (sym (e ∙ ap in_range is))
 
--- the stage is read back in what `checked_sum` tells
-summed : {t : Answer ℕ} (n : ℕ) (heights : List ℤ) (stage : ℤ) → to_z w64 (of_z w64 stage) ≡ stage
-    → t ≡ answer (heights_check n heights) (depths n heights (to_z w64 (of_z w64 stage)))
+-- what `checked_sum` tells of the first n heights, with the stage read back
+summed : (n : ℕ) (heights : List ℤ) (held : n ≤ length heights) {t : Answer ℕ} (stage : ℤ) → to_z w64 (of_z w64 stage) ≡ stage
+    → t ≡ answer (heights_check (length (front n heights held)) (front n heights held)) (depths (length (front n heights held)) (front n heights held) (to_z w64 (of_z w64 stage)))
     → t ≡ answer (heights_check n heights) (depths n heights stage)
-summed n heights stage is e = e ∙ ap (λ z. answer (heights_check n heights) (depths n heights z)) is
+summed n heights held stage is e =
+    e ∙ ap₂ answer (front_check n heights held) (front_depths n heights held (to_z w64 (of_z w64 stage)) ∙ ap (depths n heights) is)
 
 -- ---- what it answers
 
-pub returns-in-Refused : goal.returns-in-Refused
-returns-in-Refused c =
+pub returns-in_err-pond_checks : goal.returns-in_err-pond_checks
+returns-in_err-pond_checks c =
     let a = c.args in
-    let p = by_pond a.columns a.rows a.heights.now a.stage a.side (sym c.in-Refused.ensures) in
-    record { answer = p.0; sampled = p.1 }
+    let f = err_from_is_err_and c.from_residual.result c.from_residual.ensures.1 in
+    let p = by_pond a.columns a.rows a.heights.now a.stage a.side (sym c.in_err-pond_checks.ensures) in
+    rw (f.1, f.2) (record { answer = p.0; sampled = p.1 })
 
 pub returns-then-not-in_range : goal.returns-then-not-in_range
 returns-then-not-in_range c =
     let a = c.args in
-    let p = by_stage a.columns a.rows a.heights.now a.stage a.side (sym c.in_default.ensures) (sym (c.if-not-in_range.ensures ∙ ap in_range (plain a.stage c.ranges.stage.sfits))) in
+    let p = by_stage a.columns a.rows a.heights.now a.stage a.side (sym c.in_ok-pond_checks.ensures) (sym (c.if-not-in_range.ensures ∙ ap in_range (plain a.stage c.ranges.stage.sfits))) in
     record { answer = p.0; sampled = p.1 }
 
-pub returns-in-Sum : goal.returns-in-Sum
-returns-in-Sum c =
-    let a = c.args in
-    let is = plain a.stage c.ranges.stage.sfits in
-    let p = by_sum a.columns a.rows a.heights.now a.stage a.side (sym c.in_default.ensures) (staged a.stage is c.if-not-in_range.ensures) (summed (a.columns * a.rows) a.heights.now a.stage is c.in-Sum.ensures) refl c.litres.ensures in
-    record { answer = p.0; sampled = p.1 }
+-- behind the checks of the pond and of the stage
+module _ (c : Else-not-in_range) where
+  abbrev n : ℕ
+  n = c.args.columns * c.args.rows
 
-pub returns-in-Refused-checked_sum : goal.returns-in-Refused-checked_sum
-returns-in-Refused-checked_sum c =
+  ponded : pond_check c.args.columns c.args.rows c.args.heights.now c.args.side ≡ none
+  ponded = sym c.in_ok-pond_checks.ensures
+
+  room : n ≤ length c.args.heights.now
+  room = (pond_passed c.args.columns c.args.rows c.args.heights.now c.args.side ponded).1
+
+  stage_in : stage_check c.args.stage ≡ none
+  stage_in = staged c.args.stage (plain c.args.stage c.ranges.stage.sfits) c.if-not-in_range.ensures
+
+  -- what `checked_sum` tells
+  as_summed : {t : Answer ℕ} → t ≡ answer (heights_check (length (front n c.args.heights.now room)) (front n c.args.heights.now room)) (depths (length (front n c.args.heights.now room)) (front n c.args.heights.now room) (to_z w64 (of_z w64 c.args.stage)))
+      → t ≡ answer (heights_check n c.args.heights.now) (depths n c.args.heights.now c.args.stage)
+  as_summed e = summed n c.args.heights.now room c.args.stage (plain c.args.stage c.ranges.stage.sfits) e
+
+pub returns-in_err-sum : goal.returns-in_err-sum
+returns-in_err-sum c =
     let a = c.args in
-    let is = plain a.stage c.ranges.stage.sfits in
-    let p = by_heights a.columns a.rows a.heights.now a.stage a.side (sym c.in_default.ensures) (staged a.stage is c.if-not-in_range.ensures) (summed (a.columns * a.rows) a.heights.now a.stage is c.in-Refused-checked_sum.ensures) refl in
+    let s = (goal.at.returns-in_err-sum c).Else-not-in_range in
+    let f = err_from_is_err_and c.from_residual-in_err-sum.result c.from_residual-in_err-sum.ensures.1 in
+    let p = by_heights a.columns a.rows a.heights.now a.stage a.side (ponded s) (stage_in s) (as_summed s c.in_err-sum.ensures) refl in
+    rw (f.1, f.2) (record { answer = p.0; sampled = p.1 })
+
+pub returns : goal.returns
+returns c =
+    let a = c.args in
+    let s = (goal.at.returns c).Else-not-in_range in
+    let p = by_sum a.columns a.rows a.heights.now a.stage a.side (ponded s) (stage_in s) (as_summed s c.in_ok-sum.ensures) refl c.litres.ensures in
     record { answer = p.0; sampled = p.1 }
 
 -- ---- what its steps ask
@@ -112,20 +137,24 @@ returns-in-Refused-checked_sum c =
 pub overflow_mul-columns : goal.overflow_mul-columns
 overflow_mul-columns c =
     let a = c.args in
-    omega (arith, (pond_passed a.columns a.rows a.heights.now a.side (sym c.in_default.ensures)).0)
+    omega (arith, (pond_passed a.columns a.rows a.heights.now a.side (sym c.in_ok-pond_checks.ensures)).0)
+
+pub slice_bounds-checked_sum-end : goal.slice_bounds-checked_sum-end
+slice_bounds-checked_sum-end c =
+    let s = (goal.at.slice_bounds-checked_sum-end c).Else-not-in_range in
+    sym (front_length (n s) c.args.heights.now (room s))
 
 pub checked_sum-requires : goal.checked_sum-requires
 checked_sum-requires c =
     let a = c.args in
+    let s = (goal.at.checked_sum-requires c).Else-not-in_range in
     let is = plain a.stage c.ranges.stage.sfits in
-    let p = pond_passed a.columns a.rows a.heights.now a.side (sym c.in_default.ensures) in
-    (p.1, p.0, rw is (stage_passed a.stage (staged a.stage is c.if-not-in_range.ensures)))
+    (omega (arith, front_length (n s) a.heights.now (room s), (pond_passed a.columns a.rows a.heights.now a.side (ponded s)).0), rw is (stage_passed a.stage (stage_in s)))
 
 pub litres-requires : goal.litres-requires
 litres-requires c =
     let a = c.args in
-    let is = plain a.stage c.ranges.stage.sfits in
-    let ponded = sym c.in_default.ensures in (
-      sum_fits a.columns a.rows a.heights.now a.stage a.side ponded (staged a.stage is c.if-not-in_range.ensures) (summed (a.columns * a.rows) a.heights.now a.stage is c.in-Sum.ensures) refl,
-      (pond_passed a.columns a.rows a.heights.now a.side ponded).2,
+    let s = (goal.at.litres-requires c).Else-not-in_range in (
+      sum_fits a.columns a.rows a.heights.now a.stage a.side (ponded s) (stage_in s) (as_summed s c.in_ok-sum.ensures) refl,
+      (pond_passed a.columns a.rows a.heights.now a.side (ponded s)).2,
     )
