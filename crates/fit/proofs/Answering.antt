@@ -1,27 +1,24 @@
 -- What the fit answers and leaves: a refusal before the levels is the rules' and leaves all as it was; what `run` leaves, cleared, is the rules'.
-use Rattle.std.proofs.Common.{◌≡◌, sym, ap, subst, ◌∙◌, ◌&&◌, List, ℕ, ◌+◌, ◌*◌, ◌≤◌, arith, leb, leb→le, ℤ, pos, length, replicate}
+use Rattle.std.proofs.Common.{◌≡◌, sym, ap, subst, ◌∙◌, ◌&&◌, List, ◌++◌, ℕ, ◌+◌, ◌*◌, ◌≤◌, take, drop, leb, leb→le, ℤ, pos, length, replicate}
 use Rattle.std.proofs.Math.Facts.{and_yes}
+use Rattle.std.proofs.Math.Seq.{length-take-le}
+use Rattle.std.proofs.lemmas.List.{length-replicate}
 use Rattle.std.specs.Float.Ieee.{Float}
 use Rattle.std.proofs.Math.Option.{none, some}
-use Rattle.algebra.specs.Table.{over}
+use Rattle.algebra.specs.Table.{over, over_length}
 use Rattle.rules.specs.Grid.{cells_at, controls}
 use Rattle.rules.specs.Level.{zero64}
-use Rattle.rules.specs.Fit.{Shape, columns, rows, Survey, point_count, base, from_base, difference_check, in_levels_check}
-use Rattle.rules.specs.Answers.{Refusal, short, Check, ◌then◌, Answer, refused, answer, outcome}
+use Rattle.rules.specs.Fit.{Shape, columns, rows, Survey, point_count, from_base, difference_check, in_levels_check}
+use Rattle.rules.specs.Answers.{Refusal, short, Check, ◌then◌, Answer, refused, outcome}
 use Rattle.rules.specs.Calls.{CellCounts, Lent, lent, K, survey_check, room_check, lent_check, points_check, cleared, fit_end, fit_call}
 use Rattle.rules.specs.Demand3.{Demand3}
 use Rattle.rules.specs.Laws.Checks.{AllInRange}
-use Rattle.rules.proofs.Laws.Checks.{required, then_first, then_rest, answer_none, answer_value, answer_refused}
-use Rattle.rules.specs.Laws.Passed.{Sides, Surveyed}
-use Rattle.rules.proofs.Laws.Passed.{level_sides, points_passed, based_surveyed, based_placed, controls_fit}
+use Rattle.rules.proofs.Laws.Checks.{required, then_first, then_rest}
+use Rattle.rules.specs.Laws.Passed.{Surveyed}
+use Rattle.rules.proofs.Laws.Passed.{points_passed, based_surveyed, based_placed, controls_fit}
 use Rattle.rules.proofs.Laws.Refused.{early_check, grouped, early_only}
 use Rattle.rules.proofs.Laws.Distance.{demand3}
-use Rattle.answers.specs.Cause.{cause}
-use Rattle.answers.specs.declared.Refusal as coded
-use Rattle.base.specs.Told.{told}
-use Rattle.base.specs.declared.BaseTold.{BaseTold}
-use Rattle.base.specs.declared.BaseTold.TheVariants.{Base, Refused}
-use Rattle.scratch.specs.Scratch.{Levelable, Celled}
+use Rattle.scratch.specs.Scratch.{Levelable}
 
 -- ---- the fit
 
@@ -92,41 +89,37 @@ roomy p most lattice residual whole floats e =
       for_floats = leb→le (2 * most) floats s.1;
     }
 
--- the cells of level h as the code has them
-pub finest_celled : {a : Shape} {s : Survey} {m n : ℕ} → Surveyed a s → m ≡ cells_at a.m0 a.h → n ≡ cells_at a.n0 a.h → Celled a a.h ((m + 3) * (n + 3)) m n
-unfolding columns rows
-finest_celled {a = a} {m = m} {n = n} shown m_is n_is =
-    let sides : Sides 512 m n = rw (m_is, n_is) (level_sides a.m0 a.n0 a.h shown.sides shown.levels_most) in
-    record { m_is = m_is; n_is = n_is; sides = sides; count = omega arith; most_fits = controls_fit m n sides.1 sides.3 }
-
 -- heights of points that are in order are in range
 pub heights_ranged : (m n : ℕ) (s : Survey) → length s.zs ≡ point_count s → points_check 16 m n s ≡ none → AllInRange (length s.zs) s.zs
 heights_ranged m n s many e i l = (points_passed 16 m n s e i (rw (← many) l)).z_size
 
--- what heights tell of their base, behind a check c
-module _ (c : Check) (zs : List ℤ) {t : BaseTold} (told_is : told t ≡ answer c (base zs)) where
-  pub base_told : {b : ℤ} → t ≡ Base b → (c ≡ none) × (b ≡ base zs)
-  base_told is = let known = sym told_is ∙ ap told is in (answer_none _ _ _ known, sym (answer_value _ _ _ known))
+pub controls_few : (m n : ℕ) → m ≤ 512 → n ≤ 512 → controls m n ≤ 265_225
+unfolding controls
+controls_few m n h k = controls_fit m n h k
 
-  pub base_refused : {r : coded.Refusal} → t ≡ Refused r → c ≡ some (cause r)
-  base_refused is = answer_refused _ _ _ (sym told_is ∙ ap told is)
-
-module _ {a : Shape} {m n : ℕ} (z : Celled a a.h ((m + 3) * (n + 3)) m n) where
-  pub most_is : (m + 3) * (n + 3) ≡ K a
-  unfolding K controls
-  most_is = rw (z.m_is, z.n_is)
+-- the cells of level h as the code has them
+module _ (a : Shape) {m n : ℕ} (m_is : m ≡ cells_at a.m0 a.h) (n_is : n ≡ cells_at a.n0 a.h) where
+  pub most_is : {most : ℕ} → most ≡ controls m n → most ≡ K a
+  unfolding K columns rows
+  most_is e = e ∙ rw (m_is, n_is)
 
   -- the code's check of the points is that of the rules
   pub points_is : (s : Survey) → (points_check 16 m n s then difference_check s.zs) ≡ pointed a s
-  points_is s = rw (z.m_is, z.n_is)
+  unfolding columns rows
+  points_is s = rw (m_is, n_is)
 
-  pub run_ready : {s : Survey} {lattice residual whole floats : ℕ} → Surveyed a s → pointed a s ≡ none
-      → Roomy (point_count s) ((m + 3) * (n + 3)) lattice residual whole floats → Levelable a (from_base s) ((m + 3) * (n + 3)) whole floats
-  run_ready {s = s} shown e r = record {
-    surveyed = based_surveyed shown;
-    placed = based_placed shown (then_rest _ _ e) (points_passed 16 (columns a a.h) (rows a a.h) s (then_first _ _ e));
-    most_is = most_is;
-    most_fits = z.most_fits;
-    whole_room = r.for_whole;
-    floats_room = r.for_floats;
-  }
+pub run_ready : {a : Shape} {s : Survey} {most lattice residual whole floats : ℕ} → Surveyed a s → pointed a s ≡ none → most ≡ K a → most ≤ 265_225
+    → Roomy (point_count s) most lattice residual whole floats → Levelable a (from_base s) most whole floats
+run_ready {a = a} {s = s} shown e most_is few r = record {
+  surveyed = based_surveyed shown;
+  placed = based_placed shown (then_rest _ _ e) (points_passed 16 (columns a a.h) (rows a a.h) s (then_first _ _ e));
+  most_is = most_is;
+  most_fits = few;
+  whole_room = r.for_whole;
+  floats_room = r.for_floats;
+}
+
+-- a part that is filled is laid over the start of its slice
+pub filled : {A : Type 0} (k : ℕ) (v : A) (d : List A) {new : List A} → k ≤ length d → new ≡ replicate (length (take k d)) v → new ++ drop k d ≡ over (replicate k v) d
+filled k v d h is =
+    ap (λ r. r ++ drop k d) (is ∙ ap (λ i. replicate i v) (length-take-le k d h)) ∙ sym (over_length k (replicate k v) d (length-replicate k v))

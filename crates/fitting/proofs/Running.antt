@@ -25,22 +25,22 @@ unfolding differences
 less_base zs d x_is e = e ∙ ap (λ y. over (shifted y zs) d) (x_is ∙ +ℤ_idl (neg_ℤ (base zs)))
 
 -- there is room for them
-pub differences_fit : {a : Shape} {xs ys qs : List ℕ} {most F : ℕ} (zs whole : List ℤ) → Levelable a (from_base (survey xs ys zs qs)) most (length whole) F
-    → length zs ≤ length (take (3 * most + length xs - 3 * most) (drop (3 * most) whole))
-differences_fit zs whole p = simp (length-take, length-drop) (omega (arith, p, length_differences zs, p.surveyed.as_many_z))
+pub differences_fit : {a : Shape} {xs ys qs : List ℕ} {most F n : ℕ} (zs whole : List ℤ) → Levelable a (from_base (survey xs ys zs qs)) most (length whole) F → n ≡ length xs
+    → length zs ≤ length (take (3 * most + n - 3 * most) (drop (3 * most) whole))
+differences_fit zs whole p n_is = simp (length-take, length-drop) (omega (arith, p, length_differences zs, p.surveyed.as_many_z))
 
-module _ {a : Shape} {xs ys qs : List ℕ} {most F : ℕ} (zs whole : List ℤ) (p : Levelable a (from_base (survey xs ys zs qs)) most (length whole) F) {part : List ℤ}
-    (written : part ≡ over (differences zs) (take (3 * most + length xs - 3 * most) (drop (3 * most) whole))) where
+module _ {a : Shape} {xs ys qs : List ℕ} {most F : ℕ} (zs whole : List ℤ) (p : Levelable a (from_base (survey xs ys zs qs)) most (length whole) F) {n : ℕ} (n_is : n ≡ length xs)
+    {part : List ℤ} (written : part ≡ over (differences zs) (take (3 * most + n - 3 * most) (drop (3 * most) whole))) where
   abbrev many : ℕ
   many = length xs
 
   abbrev started : List ℤ
-  started = take (3 * most) whole ++ (part ++ drop (3 * most + many - 3 * most) (drop (3 * most) whole))
+  started = take (3 * most) whole ++ (part ++ drop (3 * most + n - 3 * most) (drop (3 * most) whole))
 
   differences_laid : started ≡ laid (3 * most) (differences zs) whole
   differences_laid =
-      ap (λ v. take (3 * most) whole ++ (v ++ drop (3 * most + many - 3 * most) (drop (3 * most) whole))) written
-      ∙ laid_part (3 * most) (3 * most + many - 3 * most) (differences zs) whole (omega (arith, p.surveyed.as_many_z)) (omega (arith, p))
+      ap (λ v. take (3 * most) whole ++ (v ++ drop (3 * most + n - 3 * most) (drop (3 * most) whole))) written
+      ∙ laid_part (3 * most) (3 * most + n - 3 * most) (differences zs) whole (omega (arith, p.surveyed.as_many_z)) (omega (arith, p))
 
   free : Free (3 * most) many whole started
   free = record { values = differences zs; as_many = p.surveyed.as_many_z; is = differences_laid }

@@ -4,46 +4,45 @@
 
 ghost use Rattle.std.specs.Prelude.{◌≡◌, ◌≤◌, length};
 ghost use Rattle.rules.specs.Answers.{outcome};
-ghost use Rattle.rules.specs.Fit.{shape, survey, base as base_of, from_base, in_levels_check};
+ghost use Rattle.rules.specs.Fit.{base as base_of, from_base, in_levels_check};
 ghost use Rattle.rules.specs.Laws.Checks.{AllInRange};
-ghost use Rattle.rules.specs.Calls.{lent, cleared, fit_end};
+ghost use Rattle.rules.specs.Calls.{K, lent, cleared, fit_end};
+ghost use Rattle.survey.specs.Survey.{shape_of, survey_of};
 ghost use Rattle.scratch.specs.Scratch.{Levelable};
-ghost use Rattle.answers.specs.CellsTold.{told};
+ghost use Rattle.answers.specs.Told.{told_as};
+ghost use Rattle.grid.specs.Counts.{counts};
 
-use answers::{CellsTold, Refusal, Verdict};
+use answers::Refusal;
+use grid::Cells;
+use survey::{Points, Shape};
 
 // "Fit the differences, and add the base to every control value of the finished lattice": in scratch, where the final sums are judged; on acceptance the
 // results, in the caller's slices. The scratch is left to be cleared, so the promise speaks of the slices as they are once that is done.
 pub fn run(
-    m0: usize,
-    n0: usize,
-    h: usize,
-    most: usize,
-    xs: &[u16],
-    ys: &[u16],
-    zs: &[i64],
-    qs: &[u8],
+    shape: Shape,
+    points: &Points,
     base: i64,
     lattice: &mut [i64],
     residual: &mut [i64],
     whole: &mut [i64],
     floats: &mut [f64],
-) -> CellsTold
-    requires levelable { Levelable (shape m0 n0 h) (from_base (survey xs.now ys.now zs.now qs.now)) most (length whole.old) (length floats.old) × (most ≤ length lattice.old) × (length xs.now ≤ length residual.old) }
-    requires based { (base ≡ base_of zs.now) × AllInRange (length zs.now) zs.now }
-    ensures { outcome (told result) (cleared (shape m0 n0 h) (length xs.now) (lent lattice.new residual.new whole.new floats.new)) ≡ fit_end (shape m0 n0 h) (survey xs.now ys.now zs.now qs.now) (lent lattice.old residual.old whole.old floats.old) (in_levels_check (shape m0 n0 h) (survey xs.now ys.now zs.now qs.now)) }
+) -> Result<Cells, Refusal>
+    requires levelable { Levelable (shape_of shape) (from_base (survey_of points.now)) (K (shape_of shape)) (length whole.old) (length floats.old) × (K (shape_of shape) ≤ length lattice.old) × (length points.now.xs.now ≤ length residual.old) }
+    requires based { (base ≡ base_of points.now.zs.now) × AllInRange (length points.now.zs.now) points.now.zs.now }
+    ensures { outcome (told_as counts result) (cleared (shape_of shape) (length points.now.xs.now) (lent lattice.new residual.new whole.new floats.new)) ≡ fit_end (shape_of shape) (survey_of points.now) (lent lattice.old residual.old whole.old floats.old) (in_levels_check (shape_of shape) (survey_of points.now)) }
 {
+    let cells = levels::cells(shape, shape.h);
+    let most = cells.controls();
+    let p = points.len();
     let residuals = 3 * most;
-    let end = residuals + xs.len();
-    base::shift(zs, 0 - base, &mut whole[residuals..end]);
-    if let Verdict::Refused(r) = levels::fit_levels(m0, n0, h, most, xs, ys, qs, whole, floats) {
-        return CellsTold::Refused(r);
-    }
-    let from = h % 2 * most;
+    let end = residuals + p;
+    base::shift(points.zs, 0 - base, &mut whole[residuals..end]);
+    levels::fit_levels(shape, most, points, whole, floats)?;
+    let from = shape.h % 2 * most;
     let to = from + most;
     if !range::all_shifted(&whole[from..to], base) {
-        return CellsTold::Refused(Refusal::Sum(h));
+        return Err(Refusal::Sum(shape.h));
     }
-    lending::deliver(h, most, xs.len(), base, whole, lattice, residual);
-    CellsTold::Cells(levels::cells(m0, h), levels::cells(n0, h))
+    lending::deliver(shape.h, most, p, base, whole, lattice, residual);
+    Ok(cells)
 }

@@ -9,9 +9,10 @@ ghost use Rattle.rules.specs.Calls.{room_check};
 ghost use Rattle.rules.specs.Laws.Checks.{AllInRange};
 ghost use Rattle.answers.specs.Cause.{check};
 
-use answers::{Refusal, Verdict};
+use answers::Refusal;
 
 // 4: "For p points the caller lends at least: lattice K, residuals p, whole scratch 3K+p, f64 scratch 2K".
+// Lengths alone, since it reads none of the slices.
 #[tactic(auto, unfolding(rules::specs::Calls::room_check, rules::specs::Answers::require))]
 pub fn room(
     most: usize,
@@ -20,26 +21,18 @@ pub fn room(
     residual: usize,
     whole: usize,
     floats: usize,
-) -> Verdict
+) -> Result<(), Refusal>
     requires { (most ≤ 265_225) × (p ≤ 65_535) }
     ensures { check result ≡ room_check most p lattice residual whole floats }
 {
-    if lattice < most {
-        return Verdict::Refused(Refusal::Short);
+    if lattice < most || residual < p || whole < 3 * most + p || floats < 2 * most {
+        return Err(Refusal::Short);
     }
-    if residual < p {
-        return Verdict::Refused(Refusal::Short);
-    }
-    if whole < 3 * most + p {
-        return Verdict::Refused(Refusal::Short);
-    }
-    if floats < 2 * most {
-        return Verdict::Refused(Refusal::Short);
-    }
-    Verdict::Fine
+    Ok(())
 }
 
 // The last running lattice with the base added, and the last residuals, from their areas to the caller's slices.
+// Counts, and no shape or points, since those types would ask more of its callers.
 pub fn deliver(
     h: usize,
     most: usize,
@@ -59,5 +52,5 @@ pub fn deliver(
     base::shift(&whole[from..to], base, lattice);
     let residuals = 3 * most;
     let end = residuals + p;
-    fit_steps::copy(p, &whole[residuals..end], residual);
+    residual[..p].copy_from_slice(&whole[residuals..end]);
 }

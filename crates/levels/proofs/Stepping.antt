@@ -1,5 +1,5 @@
 -- One level and all levels: the checks of a level's two halves are those of the level, and the levels' are those of the fit.
-use Rattle.std.proofs.Common.{◌≡◌, refl, sym, ap, subst, ◌∙◌, List, ℕ, zero, suc, ◌+◌, ◌-◌, ◌*◌, ◌%◌, ◌≤◌, ◌<◌, arith, add-one, ℤ, length}
+use Rattle.std.proofs.Common.{◌≡◌, refl, sym, ap, subst, ◌∙◌, List, ℕ, zero, suc, ◌+◌, ◌*◌, ◌%◌, ◌^◌, ◌≤◌, ◌<◌, arith, add-one, ℤ, length}
 use Rattle.std.specs.Float.Ieee.{Float}
 use Rattle.std.proofs.Math.Option.{none, some}
 use Rattle.algebra.specs.Table.{Free, area, free_between, free_length, free_again}
@@ -9,27 +9,27 @@ use Rattle.rules.specs.Fit.{Shape, columns, rows, unit_of, Survey, point_count, 
 use Rattle.rules.specs.Calls.{K}
 use Rattle.rules.proofs.Laws.Checks.{then_none, then_assoc, first_of_at}
 use Rattle.scratch.specs.Scratch.{Levelable, survey_at, Before, LevelReady, RunningThere, Judged, FirstHalf, SecondHalf, WholeLevel, Levelled}
-use Rattle.scratch.specs.Sizes.{celled, unit_is, span}
+use Rattle.scratch.specs.Sizes.{celled, span}
 use Rattle.scratch.specs.Judging.{judged_refused, first_refused, then_judged}
 use Rattle.scratch.specs.Kept.{residuals_kept}
 
 -- ---- one level
 
 -- what its first half asks
-pub level_ready : {a : Shape} {s : Survey} {most k m n : ℕ} {whole : List ℤ} {F : ℕ} → Levelable a s most (length whole) F → Before a s most k whole → k ≤ a.h
-    → m ≡ cells_at a.m0 k → n ≡ cells_at a.n0 k → LevelReady a s most k m n (4 + a.h - k) whole F
+pub level_ready : {a : Shape} {s : Survey} {most k m n e : ℕ} {whole : List ℤ} {F : ℕ} → Levelable a s most (length whole) F → Before a s most k whole → k ≤ a.h
+    → m ≡ cells_at a.m0 k → n ≡ cells_at a.n0 k → 2 ^ e ≡ unit_of a k → e ≤ 9 → LevelReady a s most k m n e whole F
 unfolding unit_of columns rows
-level_ready {a = a} {k = k} p b l m_is n_is = record {
+level_ready {a = a} {k = k} p b l m_is n_is wide e_most = record {
   celled = celled p l m_is n_is;
-  unit_is = unit_is a k l;
-  e_most = omega (arith, p.surveyed);
+  unit_is = wide;
+  e_most = e_most;
   before = b;
   as_many_y = p.surveyed.as_many_y;
   as_many_z = p.surveyed.as_many_z;
   as_many_q = p.surveyed.as_many_q;
   placed = λ i h. record {
-    x_inside = rw (unit_is a k l, m_is, span a.m0 a.h k l) (p.placed i h).x_inside;
-    y_inside = rw (unit_is a k l, n_is, span a.n0 a.h k l) (p.placed i h).y_inside;
+    x_inside = rw (wide, m_is, span a.m0 a.h k l) (p.placed i h).x_inside;
+    y_inside = rw (wide, n_is, span a.n0 a.h k l) (p.placed i h).y_inside;
     z_size = b.residuals_there.ranged i h;
     q_some = (p.placed i h).q_some;
     q_most = (p.placed i h).q_most;

@@ -10,6 +10,7 @@ use Rattle.rules.specs.Fit.{Shape, columns, rows, unit_of, Survey, survey, point
 use Rattle.rules.specs.Calls.{K}
 use Rattle.rules.specs.Laws.Checks.{AllInRange}
 use Rattle.rules.specs.Laws.Passed.{Sides, Surveyed, Placed}
+use Rattle.survey.specs.declared.Points.{Points}
 
 -- ---- arguments
 
@@ -48,6 +49,10 @@ part_ranged n k whole room ranged = rw (area_part n k whole, length_area n k who
 -- a survey whose values stand in scratch, from place n on
 abbrev pub survey_at : List ℕ → List ℕ → List ℕ → ℕ → List ℤ → Survey
 survey_at xs ys qs n whole = survey xs ys (area n (length xs) whole) qs
+
+-- points with other heights
+abbrev pub survey_with : Points → List ℤ → Survey
+survey_with p zs = survey p.xs.now p.ys.now zs p.qs.now
 
 -- running lattice k in its area
 pub record RunningThere (a : Shape) (s : Survey) (most k : ℕ) (whole : List ℤ) : Type 0 where

@@ -1,13 +1,10 @@
 -- A part that is lent is an area, and all of it is shifted or copied.
-use Rattle.std.proofs.Common.{◌≡◌, ap, ap₂, ◌∙◌, List, ℕ, ◌+◌, ◌-◌, ◌*◌, ◌%◌, ◌≤◌, ℤ, length, take, drop, arith}
-use Rattle.algebra.specs.Table.{over, area, area_part, length_area, take_area}
+use Rattle.std.proofs.Common.{sym, ap, ap₂, ◌∙◌, ◌++◌, ◌+◌, ◌*◌, ◌%◌, ◌≤◌, length, drop, arith}
+use Rattle.algebra.specs.Table.{over, area, area_part, length_area, over_length}
 use Rattle.machine.specs.Tests.{plain}
 use Rattle.rules.specs.Fit.{shifted}
 use Rattle.scratch.specs.Scratch.{area_within, part_ranged}
 use Rattle.lending.proofs.deliver.Goals as goal
-
-copied : {now : List ℤ} (n k : ℕ) (whole d : List ℤ) → now ≡ over (take k (take (n + k - n) (drop n whole))) d → now ≡ over (area n k whole) d
-copied n k whole d e = e ∙ ap (λ r. over r d) (ap (take k) (area_part n k whole) ∙ take_area n k k whole (omega arith))
 
 pub shift-requires : goal.shift-requires
 shift-requires c =
@@ -19,10 +16,14 @@ shift-requires c =
       rw (plain a.base c.ranges.base.sfits) c.requires.values_in_range.1,
     )
 
-pub returns : goal.returns
-returns c =
+pub returns-clause-lattice_after : goal.returns-clause-lattice_after
+returns-clause-lattice_after c =
     let a = c.args in
-    record {
-      lattice_after = c.shift.ensures ∙ ap₂ (λ z r. over (shifted z r) a.lattice.now) (plain a.base c.ranges.base.sfits) (area_part (a.h % 2 * a.most) a.most a.whole.now);
-      residual_after = copied (3 * a.most) a.p a.whole.now a.residual.now c.copy.ensures;
-    }
+    c.shift.ensures ∙ ap₂ (λ z r. over (shifted z r) a.lattice.now) (plain a.base c.ranges.base.sfits) (area_part (a.h % 2 * a.most) a.most a.whole.now)
+
+pub returns-clause-residual_after : goal.returns-clause-residual_after
+returns-clause-residual_after c =
+    let a = c.args in
+    let n = 3 * a.most in
+    ap (λ r. r ++ drop a.p a.residual.now) (c.copy_from_slice.ensures.after ∙ area_part n a.p a.whole.now)
+    ∙ sym (over_length a.p (area n a.p a.whole.now) a.residual.now (length_area n a.p a.whole.now c.requires.rooms.1))
