@@ -17,18 +17,15 @@ fn read_some<R: Read>(reader: &mut R, buf: &mut [u8]) -> io::Result<usize>
 {
     for _ in 0..u64::MAX {
         match reader.read(buf) {
-            Ok(n) => return Ok(n),
-            Err(e) => {
-                if e.kind() != ErrorKind::Interrupted {
-                    return Err(e);
-                }
-            }
+            Err(e) if e.kind() == ErrorKind::Interrupted => {}
+            read => return read,
         }
     }
     Err(Error::from(ErrorKind::TimedOut))
 }
 
 // Reads until buf is full or the input ends, and answers how many bytes it put at the start of buf.
+// By a loop of its own: std's `read_exact` says too little where the input ends early, and `read_to_end` needs the heap.
 fn read_full<R: Read>(reader: &mut R, buf: &mut [u8]) -> io::Result<usize>
     ensures within { ReadsAtMost result buf.new }
     ensures bytes { IfOk result (λ n. Consumes (R.remaining reader.old) (R.remaining reader.new) (take n buf.new)) }
@@ -53,9 +50,7 @@ fn answer<R: Read, W: Write>(reader: &mut R, writer: &mut W) -> io::Result<()>
     let mut input = [0u8; 7509];
     let n = read_full(reader, &mut input)?;
     let answer = respond::respond(&input[..n]);
-    let bytes = answer.bytes;
-    let len = answer.len;
-    writer.write_all(&bytes[..len])
+    writer.write_all(&answer.bytes[..answer.len])
 }
 
 fn main(rt: HostRuntime) -> io::Result<()> {

@@ -17,6 +17,8 @@ use fields::{
     AboveAnswer, CellsAnswer, CountAnswer, HeaderAnswer, HeightAnswer, SlopeAnswer, StageAnswer,
     StorageAnswer,
 };
+use nodes::Nodes;
+use survey::Shape;
 
 #[unsafe(no_mangle)]
 pub extern "C" fn curlew_fit(
@@ -35,7 +37,8 @@ pub extern "C" fn curlew_fit(
     ensures answer { handed result (calls.lent lattice.new residual.new whole.new floats.new) ≡ in_fields cells_fields (calls.fit_call (shape m0 n0 h) (survey x.now y.now z.now q.now) (calls.lent lattice.old residual.old whole.old floats.old)) }
     ensures close_everywhere { result.number ≡ 0 → CloseEverywhere (shape m0 n0 h) (survey x.now y.now z.now q.now) (record { m = result.m; n = result.n }) lattice.new }
 {
-    fields::cells(fit::fit(m0, n0, h, x, y, z, q, lattice, residual, whole, floats))
+    let shape = Shape { m0, n0, h };
+    fit::fit(shape, x, y, z, q, lattice, residual, whole, floats).into()
 }
 
 #[unsafe(no_mangle)]
@@ -49,7 +52,7 @@ pub extern "C" fn curlew_height_at(
 ) -> HeightAnswer
     ensures { result ≡ height_fields (calls.height_answer m n unit lattice.now x y) }
 {
-    fields::height(heights::height(m, n, unit, lattice, x, y))
+    heights::height(m, n, unit, lattice, x, y).into()
 }
 
 #[unsafe(no_mangle)]
@@ -63,7 +66,7 @@ pub extern "C" fn curlew_slope_at(
 ) -> SlopeAnswer
     ensures { result ≡ slope_fields (calls.slope_answer m n unit lattice.now x y) }
 {
-    fields::slope(slopes::slope(m, n, unit, lattice, x, y))
+    slopes::slope(m, n, unit, lattice, x, y).into()
 }
 
 #[unsafe(no_mangle)]
@@ -75,7 +78,7 @@ pub extern "C" fn curlew_refine(
 ) -> CellsAnswer
     ensures { handed result output.new ≡ in_fields cells_fields (calls.refine_call m n lattice.now output.old) }
 {
-    fields::cells(refinement::refine(m, n, lattice, output))
+    refinement::refine(m, n, lattice, output).into()
 }
 
 #[unsafe(no_mangle)]
@@ -93,7 +96,14 @@ pub extern "C" fn curlew_raster(
 ) -> CountAnswer
     ensures { handed result output.new ≡ in_fields count_fields (calls.raster_call m n unit lattice.now (calls.nodes x0 y0 step columns rows) output.old) }
 {
-    fields::count(raster::raster(m, n, unit, lattice, x0, y0, step, columns, rows, output))
+    let nodes = Nodes {
+        x0,
+        y0,
+        step,
+        columns,
+        rows,
+    };
+    raster::raster(m, n, unit, lattice, nodes, output).into()
 }
 
 #[unsafe(no_mangle)]
@@ -111,7 +121,14 @@ pub extern "C" fn curlew_any_above(
 ) -> AboveAnswer
     ensures { result ≡ above_fields (rule.above_answer m n unit lattice.now (calls.nodes x0 y0 step columns rows) stage) }
 {
-    fields::above(above::any_above(m, n, unit, lattice, x0, y0, step, columns, rows, stage))
+    let nodes = Nodes {
+        x0,
+        y0,
+        step,
+        columns,
+        rows,
+    };
+    above::any_above(m, n, unit, lattice, nodes, stage).into()
 }
 
 // Of the heights that an accepted raster left none is refused: only the side and the stage can be.
@@ -126,7 +143,7 @@ pub extern "C" fn curlew_storage_at(
     ensures answer { result ≡ storage_fields (pond.storage_answer columns rows heights.now stage side) }
     ensures sampled { Sampled columns rows heights.now → result ≡ storage_fields (sampled_answer columns rows heights.now stage side) }
 {
-    fields::storage(storage::storage(columns, rows, heights, stage, side))
+    storage::storage(columns, rows, heights, stage, side).into()
 }
 
 // What is accepted is the lowest stage in range that stores at least the wanted litres.
@@ -141,14 +158,14 @@ pub extern "C" fn curlew_stage_for(
     ensures answer { result ≡ stage_fields (stage_for_answer columns rows heights.now wanted side) }
     ensures lowest_stage { result.number ≡ 0 → LowestStage columns rows heights.now wanted side result.stage }
 {
-    fields::stage(stages::stage_for(columns, rows, heights, wanted, side))
+    stages::stage_for(columns, rows, heights, wanted, side).into()
 }
 
 #[unsafe(no_mangle)]
 pub extern "C" fn curlew_read_lattice(file: &[u8], output: &mut [i64]) -> CellsAnswer
     ensures { handed result output.new ≡ in_fields cells_fields (lattice_file.read_lattice_call file.now output.old) }
 {
-    fields::cells(lattice_reader::read_lattice(file, output))
+    lattice_reader::read_lattice(file, output).into()
 }
 
 #[unsafe(no_mangle)]
@@ -160,7 +177,7 @@ pub extern "C" fn curlew_write_lattice(
 ) -> CountAnswer
     ensures { handed result output.new ≡ in_fields count_fields (lattice_file.write_lattice_call m n lattice.now output.old) }
 {
-    fields::count(lattice_writer::write_lattice(m, n, lattice, output))
+    lattice_writer::write_lattice(m, n, lattice, output).into()
 }
 
 #[unsafe(no_mangle)]
@@ -173,7 +190,7 @@ pub extern "C" fn curlew_read_points(
 ) -> HeaderAnswer
     ensures { handed result (survey x.new y.new z.new q.new) ≡ in_fields header_fields (point_file.read_points_call file.now (survey x.old y.old z.old q.old)) }
 {
-    fields::header(point_reader::read_points(file, x, y, z, q))
+    point_reader::read_points(file, x, y, z, q).into()
 }
 
 #[unsafe(no_mangle)]
@@ -189,5 +206,6 @@ pub extern "C" fn curlew_write_points(
 ) -> CountAnswer
     ensures { handed result output.new ≡ in_fields count_fields (point_file.write_points_call (shape m0 n0 h) (survey x.now y.now z.now q.now) output.old) }
 {
-    fields::count(point_writer::write_points(m0, n0, h, x, y, z, q, output))
+    let shape = Shape { m0, n0, h };
+    point_writer::write_points(shape, x, y, z, q, output).into()
 }

@@ -3,23 +3,16 @@
 #![tactic(auto)]
 
 ghost use Rattle.std.specs.Prelude.{◌≡◌};
-ghost use Rattle.answers.specs.CellsTold as cells_told;
-ghost use Rattle.answers.specs.CountTold as count_told;
-ghost use Rattle.heights.specs.Reading as reading;
-ghost use Rattle.slopes.specs.Sloping as sloped;
-ghost use Rattle.point_records.specs.Read as points_read;
-ghost use Rattle.above.specs.Told as inspected;
-ghost use Rattle.storage.specs.Told as stored;
-ghost use Rattle.stages.specs.Told as staged;
+ghost use Rattle.answers.specs.Told.{told, told_as};
+ghost use Rattle.grid.specs.Counts.{counts};
+ghost use Rattle.slopes.specs.Sloping.{slopes_of};
+ghost use Rattle.point_records.specs.Read.{header_of};
 ghost use Rattle.fields.specs.Fields.{cells_fields, height_fields, slope_fields, count_fields, header_fields, above_fields, storage_fields, stage_fields};
 
-use above::Inspected;
-use answers::{CellsTold, CountTold};
-use heights::Reading;
-use point_records::PointsRead;
-use slopes::Sloped;
-use stages::StageTold;
-use storage::Stored;
+use answers::Refusal;
+use grid::Cells;
+use point_records::Header;
+use slopes::Slopes;
 
 #[repr(C)]
 #[derive(Drop)]
@@ -90,153 +83,164 @@ pub struct StageAnswer {
     pub stage: i64,
 }
 
-pub fn cells(answer: CellsTold) -> CellsAnswer
-    ensures { result ≡ cells_fields (cells_told.told answer) }
-{
-    match answer {
-        CellsTold::Cells(m, n) => CellsAnswer {
-            number: 0,
-            place: 0,
-            m,
-            n,
-        },
-        CellsTold::Refused(r) => CellsAnswer {
-            place: answers::place(r),
-            number: answers::number(r),
-            m: 0,
-            n: 0,
-        },
+impl From<Result<Cells, Refusal>> for CellsAnswer {
+    ghost from_gives = { λ answer fields. fields ≡ cells_fields (told_as counts answer) };
+
+    fn from(answer: Result<Cells, Refusal>) -> CellsAnswer {
+        match answer {
+            Ok(cells) => CellsAnswer {
+                number: 0,
+                place: 0,
+                m: cells.m,
+                n: cells.n,
+            },
+            Err(r) => CellsAnswer {
+                place: r.place(),
+                number: r.number(),
+                m: 0,
+                n: 0,
+            },
+        }
     }
 }
 
-pub fn height(answer: Reading) -> HeightAnswer
-    ensures { result ≡ height_fields (reading.told answer) }
-{
-    match answer {
-        Reading::Height(z) => HeightAnswer {
-            number: 0,
-            place: 0,
-            height: z,
-        },
-        Reading::Refused(r) => HeightAnswer {
-            place: answers::place(r),
-            number: answers::number(r),
-            height: 0,
-        },
+impl From<Result<i64, Refusal>> for HeightAnswer {
+    ghost from_gives = { λ answer fields. fields ≡ height_fields (told answer) };
+
+    fn from(answer: Result<i64, Refusal>) -> HeightAnswer {
+        match answer {
+            Ok(height) => HeightAnswer {
+                number: 0,
+                place: 0,
+                height,
+            },
+            Err(r) => HeightAnswer {
+                place: r.place(),
+                number: r.number(),
+                height: 0,
+            },
+        }
     }
 }
 
-pub fn slope(answer: Sloped) -> SlopeAnswer
-    ensures { result ≡ slope_fields (sloped.told answer) }
-{
-    match answer {
-        Sloped::Slopes(s) => SlopeAnswer {
-            number: 0,
-            place: 0,
-            along_x: s.along_x,
-            along_y: s.along_y,
-        },
-        Sloped::Refused(r) => SlopeAnswer {
-            place: answers::place(r),
-            number: answers::number(r),
-            along_x: 0,
-            along_y: 0,
-        },
+impl From<Result<Slopes, Refusal>> for SlopeAnswer {
+    ghost from_gives = { λ answer fields. fields ≡ slope_fields (told_as slopes_of answer) };
+
+    fn from(answer: Result<Slopes, Refusal>) -> SlopeAnswer {
+        match answer {
+            Ok(s) => SlopeAnswer {
+                number: 0,
+                place: 0,
+                along_x: s.along_x,
+                along_y: s.along_y,
+            },
+            Err(r) => SlopeAnswer {
+                place: r.place(),
+                number: r.number(),
+                along_x: 0,
+                along_y: 0,
+            },
+        }
     }
 }
 
-pub fn count(answer: CountTold) -> CountAnswer
-    ensures { result ≡ count_fields (count_told.told answer) }
-{
-    match answer {
-        CountTold::Count(q) => CountAnswer {
-            number: 0,
-            place: 0,
-            count: q,
-        },
-        CountTold::Refused(r) => CountAnswer {
-            place: answers::place(r),
-            number: answers::number(r),
-            count: 0,
-        },
+impl From<Result<usize, Refusal>> for CountAnswer {
+    ghost from_gives = { λ answer fields. fields ≡ count_fields (told answer) };
+
+    fn from(answer: Result<usize, Refusal>) -> CountAnswer {
+        match answer {
+            Ok(count) => CountAnswer {
+                number: 0,
+                place: 0,
+                count,
+            },
+            Err(r) => CountAnswer {
+                place: r.place(),
+                number: r.number(),
+                count: 0,
+            },
+        }
     }
 }
 
-pub fn header(answer: PointsRead) -> HeaderAnswer
-    ensures { result ≡ header_fields (points_read.told answer) }
-{
-    match answer {
-        PointsRead::Header(a) => HeaderAnswer {
-            number: 0,
-            place: 0,
-            m0: a.m0,
-            n0: a.n0,
-            h: a.h,
-            points: a.points,
-        },
-        PointsRead::Refused(r) => HeaderAnswer {
-            place: answers::place(r),
-            number: answers::number(r),
-            m0: 0,
-            n0: 0,
-            h: 0,
-            points: 0,
-        },
+impl From<Result<Header, Refusal>> for HeaderAnswer {
+    ghost from_gives = { λ answer fields. fields ≡ header_fields (told_as header_of answer) };
+
+    fn from(answer: Result<Header, Refusal>) -> HeaderAnswer {
+        match answer {
+            Ok(a) => HeaderAnswer {
+                number: 0,
+                place: 0,
+                m0: a.shape.m0,
+                n0: a.shape.n0,
+                h: a.shape.h,
+                points: a.points,
+            },
+            Err(r) => HeaderAnswer {
+                place: r.place(),
+                number: r.number(),
+                m0: 0,
+                n0: 0,
+                h: 0,
+                points: 0,
+            },
+        }
     }
 }
 
-pub fn above(answer: Inspected) -> AboveAnswer
-    ensures { result ≡ above_fields (inspected.told answer) }
-{
-    match answer {
-        Inspected::Yes => AboveAnswer {
-            number: 0,
-            place: 0,
-            above: 1,
-        },
-        Inspected::No => AboveAnswer {
-            number: 0,
-            place: 0,
-            above: 0,
-        },
-        Inspected::Refused(r) => AboveAnswer {
-            place: answers::place(r),
-            number: answers::number(r),
-            above: 0,
-        },
+impl From<Result<bool, Refusal>> for AboveAnswer {
+    ghost from_gives = { λ answer fields. fields ≡ above_fields (told answer) };
+
+    fn from(answer: Result<bool, Refusal>) -> AboveAnswer {
+        match answer {
+            Ok(above) => AboveAnswer {
+                number: 0,
+                place: 0,
+                above: usize::from(above),
+            },
+            Err(r) => AboveAnswer {
+                place: r.place(),
+                number: r.number(),
+                above: 0,
+            },
+        }
     }
 }
 
-pub fn storage(answer: Stored) -> StorageAnswer
-    ensures { result ≡ storage_fields (stored.told answer) }
-{
-    match answer {
-        Stored::Litres(v) => StorageAnswer {
-            number: 0,
-            place: 0,
-            litres: v,
-        },
-        Stored::Refused(r) => StorageAnswer {
-            place: answers::place(r),
-            number: answers::number(r),
-            litres: 0,
-        },
+impl From<Result<u64, Refusal>> for StorageAnswer {
+    ghost from_gives = { λ answer fields. fields ≡ storage_fields (told answer) };
+
+    fn from(answer: Result<u64, Refusal>) -> StorageAnswer {
+        match answer {
+            Ok(litres) => StorageAnswer {
+                number: 0,
+                place: 0,
+                litres,
+            },
+            Err(r) => StorageAnswer {
+                place: r.place(),
+                number: r.number(),
+                litres: 0,
+            },
+        }
     }
 }
 
-pub fn stage(answer: StageTold) -> StageAnswer
-    ensures { result ≡ stage_fields (staged.told answer) }
-{
-    match answer {
-        StageTold::Stage(z) => StageAnswer {
-            number: 0,
-            place: 0,
-            stage: z,
-        },
-        StageTold::Refused(r) => StageAnswer {
-            place: answers::place(r),
-            number: answers::number(r),
-            stage: 0,
-        },
+impl From<Result<i64, Refusal>> for StageAnswer {
+    ghost from_gives = { λ answer fields. fields ≡ stage_fields (told answer) };
+
+    fn from(answer: Result<i64, Refusal>) -> StageAnswer {
+        match answer {
+            Ok(stage) => StageAnswer {
+                number: 0,
+                place: 0,
+                stage,
+            },
+            Err(r) => StageAnswer {
+                place: r.place(),
+                number: r.number(),
+                stage: 0,
+            },
+        }
     }
 }

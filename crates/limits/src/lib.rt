@@ -2,7 +2,10 @@
 #![tactic(auto)]
 
 ghost use Rattle.std.specs.Prelude.{◌≡◌, ◌&&◌, ◌≤◌, leb};
-ghost use Rattle.rules.specs.Fit.{shape, columns, rows};
+ghost use Rattle.rules.specs.Fit.{columns, rows};
+ghost use Rattle.survey.specs.Survey.{shape_of};
+
+use survey::Shape;
 
 // A head and 500 PQ points, or 535 PT points.
 const MOST_BYTES: usize = 7_508;
@@ -16,12 +19,9 @@ pub fn few_bytes(len: usize) -> bool
     len <= MOST_BYTES
 }
 
-pub fn few_cells(m0: usize, n0: usize, h: usize) -> bool
-    requires { (m0 ≤ 16) × (n0 ≤ 16) × (h ≤ 5) }
-    ensures { result ≡ (leb (columns (shape m0 n0 h) h) 16 && leb (rows (shape m0 n0 h) h) 16) }
+pub fn few_cells(shape: Shape) -> bool
+    requires { (shape.m0 ≤ 16) × (shape.n0 ≤ 16) × (shape.h ≤ 5) }
+    ensures { result ≡ (leb (columns (shape_of shape) shape.h) 16 && leb (rows (shape_of shape) shape.h) 16) }
 {
-    if MOST_CELLS < m0 << h {
-        return false;
-    }
-    n0 << h <= MOST_CELLS
+    shape.m0 << shape.h <= MOST_CELLS && shape.n0 << shape.h <= MOST_CELLS
 }

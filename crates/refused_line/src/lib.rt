@@ -3,43 +3,34 @@
 
 ghost use Rattle.std.specs.Prelude.{◌≡◌, ◌+◌, ◌≤◌, length};
 ghost use Rattle.algebra.specs.Table.{laid};
-ghost use Rattle.rules.specs.Program.{decimal, refused_line};
+ghost use Rattle.rules.specs.Program.{refused_line};
 ghost use Rattle.answers.specs.Cause.{cause};
 ghost use Rattle.refused_line.specs.Wrote.{Wrote};
 
 use answers::Refusal;
+use itoa::Buffer;
 
-// A number in decimal from byte at on; answers the byte after it.
-fn put_decimal(output: &mut [u8], at: usize, v: usize) -> usize
-    requires { at + length (decimal v) ≤ length output.old }
-    ensures end_place { result ≡ at + length (decimal v) }
-    ensures output_after { output.new ≡ laid at (decimal v) output.old }
+// A text from byte at on; answers the byte after it.
+fn put(output: &mut [u8], at: usize, text: &[u8]) -> usize
+    requires { at + length text.now ≤ length output.old }
+    ensures end_place { result ≡ at + length text.now }
+    ensures output_after { output.new ≡ laid at text.now output.old }
 {
-    if v < 10 {
-        output[at] = 48 + v as u8;
-        return at + 1;
-    }
-    let next = put_decimal(output, at, v / 10);
-    output[next] = 48 + (v % 10) as u8;
-    next + 1
+    let end = at + text.len();
+    output[at..end].copy_from_slice(text);
+    end
 }
 
 // "refused N P" and a newline, at the start of output; answers its length. Each number has at most 20 digits.
+// By itoa, since std's `write!` into a buffer does not promise an Ok where there is room.
 pub fn put_refused(r: Refusal, output: &mut [u8]) -> usize
     requires { 50 ≤ length output.old }
     ensures { Wrote (refused_line (cause r)) output.old result output.new }
 {
-    output[0] = b'r';
-    output[1] = b'e';
-    output[2] = b'f';
-    output[3] = b'u';
-    output[4] = b's';
-    output[5] = b'e';
-    output[6] = b'd';
-    output[7] = b' ';
-    let space = put_decimal(output, 8, answers::number(r));
-    output[space] = b' ';
-    let end = put_decimal(output, space + 1, answers::place(r));
-    output[end] = b'\n';
-    end + 1
+    let mut digits = Buffer::new();
+    let number = put(output, 0, b"refused ");
+    let space = put(output, number, digits.format(r.number()).as_bytes());
+    let place = put(output, space, b" ");
+    let newline = put(output, place, digits.format(r.place()).as_bytes());
+    put(output, newline, b"\n")
 }

@@ -91,11 +91,11 @@ module _ {a : Shape} {s : Survey} (t : Taken a s) (w : Lent) (lattice : 361 ≡ 
       up : rows a a.h ≡ n
       up = ap (λ (c : CellCounts). c.n) fine.counts
 
-      pub room : (m ≤ 512) × (n ≤ 512) × (controls m n ≤ 361) × (lattice_file_length m n ≤ 2_974)
+      pub room : (controls m n ≤ 361) × (lattice_file_length m n ≤ 2_974)
       room =
           let p : m ≤ 16 = rw (← across) t.across in
           let q : n ≤ 16 = rw (← up) t.up in
-          (omega arith, omega arith, controls_most p q, file_most p q)
+          (controls_most p q, file_most p q)
 
       answer_is : answer_text a s ≡ lattice_file m n (single_lattice a s)
       unfolding written

@@ -2,36 +2,40 @@
 #![tactic(auto)]
 
 ghost use Rattle.std.specs.Prelude.{◌≡◌, ◌≤◌, length, replicate};
-ghost use Rattle.rules.specs.Fit.{shape, survey};
+ghost use Rattle.rules.specs.Fit.{survey};
 ghost use Rattle.rules.specs.Program.{program_output};
+ghost use Rattle.survey.specs.Survey.{shape_of};
 ghost use Rattle.refused_line.specs.Wrote.{Wrote};
-ghost use Rattle.respond.specs.Taken.{Taken, answer_text};
+ghost use Rattle.respond.specs.Taken.{Taken, Answers, answer_text};
 
-use answers::{CellsTold, Refusal};
-use point_records::PointsRead;
+use answers::Refusal;
+use survey::Shape;
 
-// The lattice file of points that are taken, or the fit's refusal, at the start of output; answers its length.
+// The most points that a file of the program's has, control values of their fit, and bytes of an answer.
+const POINTS: usize = 535;
+
+const CONTROLS: usize = 361;
+
+const BYTES: usize = 2_974;
+
+// The lattice file of points that are taken, at the start of output, and its length.
 fn fit_and_write(
-    m0: usize,
-    n0: usize,
-    h: usize,
+    shape: Shape,
     xs: &[u16],
     ys: &[u16],
     zs: &[i64],
     qs: &[u8],
     output: &mut [u8],
-) -> usize
-    requires { Taken (shape m0 n0 h) (survey xs.now ys.now zs.now qs.now) × (2_974 ≤ length output.old) }
-    ensures { Wrote (answer_text (shape m0 n0 h) (survey xs.now ys.now zs.now qs.now)) output.old result output.new }
+) -> Result<usize, Refusal>
+    requires { Taken (shape_of shape) (survey xs.now ys.now zs.now qs.now) × (2_974 ≤ length output.old) }
+    ensures { Answers (answer_text (shape_of shape) (survey xs.now ys.now zs.now qs.now)) output.old result output.new }
 {
-    let mut lattice = [0i64; 361];
-    let mut residual = [0i64; 535];
-    let mut whole = [0i64; 1618];
-    let mut floats = [0.0f64; 722];
-    match fit::fit(
-        m0,
-        n0,
-        h,
+    let mut lattice = [0i64; CONTROLS];
+    let mut residual = [0i64; POINTS];
+    let mut whole = [0i64; 3 * CONTROLS + POINTS];
+    let mut floats = [0.0f64; 2 * CONTROLS];
+    let cells = fit::fit(
+        shape,
         xs,
         ys,
         zs,
@@ -40,10 +44,28 @@ fn fit_and_write(
         &mut residual,
         &mut whole,
         &mut floats,
-    ) {
-        CellsTold::Cells(m, n) => lattice_writer::put_lattice(m, n, &lattice, output),
-        CellsTold::Refused(r) => refused_line::put_refused(r, output),
+    )?;
+    Ok(lattice_writer::put_lattice(cells, &lattice, output))
+}
+
+// The lattice file of what the input holds, at the start of output, and its length.
+fn read_and_fit(input: &[u8], output: &mut [u8]) -> Result<usize, Refusal>
+    requires { 2_974 ≤ length output.old }
+    ensures { Answers (program_output input.now) output.old result output.new }
+{
+    if !limits::few_bytes(input.len()) {
+        return Err(Refusal::Short);
     }
+    let mut xs = [0u16; POINTS];
+    let mut ys = [0u16; POINTS];
+    let mut zs = [0i64; POINTS];
+    let mut qs = [0u8; POINTS];
+    let header = point_reader::read_points(input, &mut xs, &mut ys, &mut zs, &mut qs)?;
+    if !limits::few_cells(header.shape) {
+        return Err(Refusal::Short);
+    }
+    let p = header.points;
+    fit_and_write(header.shape, &xs[..p], &ys[..p], &zs[..p], &qs[..p], output)
 }
 
 // The whole answer at the start of output; answers its length.
@@ -51,25 +73,9 @@ fn write(input: &[u8], output: &mut [u8]) -> usize
     requires { 2_974 ≤ length output.old }
     ensures { Wrote (program_output input.now) output.old result output.new }
 {
-    if !limits::few_bytes(input.len()) {
-        return refused_line::put_refused(Refusal::Short, output);
-    }
-    let mut xs = [0u16; 535];
-    let mut ys = [0u16; 535];
-    let mut zs = [0i64; 535];
-    let mut qs = [0u8; 535];
-    match point_reader::read_points(input, &mut xs, &mut ys, &mut zs, &mut qs) {
-        PointsRead::Refused(r) => refused_line::put_refused(r, output),
-        PointsRead::Header(a) => {
-            let m0 = a.m0;
-            let n0 = a.n0;
-            let h = a.h;
-            let p = a.points;
-            if !limits::few_cells(m0, n0, h) {
-                return refused_line::put_refused(Refusal::Short, output);
-            }
-            fit_and_write(m0, n0, h, &xs[..p], &ys[..p], &zs[..p], &qs[..p], output)
-        }
+    match read_and_fit(input, output) {
+        Ok(len) => len,
+        Err(r) => refused_line::put_refused(r, output),
     }
 }
 
@@ -77,15 +83,15 @@ fn write(input: &[u8], output: &mut [u8]) -> usize
 #[derive(Drop)]
 pub struct Response {
     pub len: usize,
-    pub bytes: [u8; 2974],
+    pub bytes: [u8; BYTES],
+    ghost within: { len ≤ 2_974 },
 }
 
 // The answer to the bytes of the program's standard input.
 pub fn respond(input: &[u8]) -> Response
-    ensures lengths { (2_974 ≡ length result.bytes) × (result.len ≤ 2_974) }
-    ensures wrote { Wrote (program_output input.now) (replicate 2_974 0) result.len result.bytes }
+    ensures { Wrote (program_output input.now) (replicate 2_974 0) result.len result.bytes }
 {
-    let mut bytes = [0u8; 2974];
+    let mut bytes = [0u8; BYTES];
     let len = write(input, &mut bytes);
     Response { len, bytes }
 }

@@ -42,5 +42,5 @@ returns g c =
     (λ wrote.
     answered (Appends _ _) _ _ (take c.in_ok-n.n c.read_full.new.buf) read.bytes
     (λ few. read.ended (omega (arith, read.within)))
-    (subst (Appends _ _) (text_is c.respond-answer.ensures.wrote) wrote))
+    (subst (Appends _ _) (text_is c.respond-answer.ensures) wrote))
     c.write_all.ensures.bytes

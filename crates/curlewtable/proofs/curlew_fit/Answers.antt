@@ -5,4 +5,4 @@ use Rattle.curlewtable.proofs.curlew_fit.Goals as goal
 
 pub returns-clause-close_everywhere : goal.returns-clause-close_everywhere
 unfolding Demand3
-returns-clause-close_everywhere c = λ z. c.fit.ensures.stated_distance _ (cells_accepted _ c.cells.ensures z)
+returns-clause-close_everywhere c = λ z. c.fit.ensures.stated_distance _ (cells_accepted _ c.into.ensures z)

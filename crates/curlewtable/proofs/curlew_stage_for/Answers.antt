@@ -3,4 +3,4 @@ use Rattle.fields.specs.Handed.{stage_accepted}
 use Rattle.curlewtable.proofs.curlew_stage_for.Goals as goal
 
 pub returns-clause-lowest_stage : goal.returns-clause-lowest_stage
-returns-clause-lowest_stage c = λ n. c.stage_for.ensures.lowest_stage _ (stage_accepted _ c.stage.ensures n)
+returns-clause-lowest_stage c = λ n. c.stage_for.ensures.lowest_stage _ (stage_accepted _ c.into.ensures n)
