@@ -11,7 +11,7 @@ ghost use Rattle.above.specs.Inspectable.{Inspectable};
 use answers::Refusal;
 use grid::Grid;
 use nodes::Nodes;
-use strips::{Columns, Strip, UNTAPPED};
+use strips::Strip;
 
 // The answer for a lattice, nodes and a stage that are known to be in range and inside.
 fn above_within(grid: Grid, lattice: &[i64], nodes: Nodes, stage: i64) -> bool
@@ -22,18 +22,9 @@ fn above_within(grid: Grid, lattice: &[i64], nodes: Nodes, stage: i64) -> bool
         return false;
     }
     let most = roundings::most_under(stage, grid.e);
-    let mut cells = [0; 64];
-    let mut taps = [UNTAPPED; 64];
     for column in (0..nodes.columns).step_by(64) {
         let strip = Strip::from_column(grid, nodes, column);
-        strips::tap(strip, &mut cells, &mut taps);
-        let columns = Columns {
-            strip,
-            lattice,
-            cells: &cells,
-            taps: &taps,
-        };
-        if bands::strip_above(&columns, stage, most) {
+        if bands::strip_above(strip, lattice, stage, most) {
             return true;
         }
     }

@@ -3,13 +3,13 @@
 #![tactic(auto)]
 
 ghost use Rattle.std.specs.Prelude.{◌≡◌, ℕ, ◌+◌, ◌≤◌, ◌<◌};
-ghost use Rattle.basis.specs.Weighing.{weight_size};
+ghost use Rattle.basis.specs.Weighing.{Grounded, weight_size};
 ghost use Rattle.strips.specs.Strips.{Ringed, RingInRange, row_cell};
 ghost use Rattle.bands.specs.Bands.{RowsInside, Band, Threshold, SumsDecided, BandDecided, Decided, NodeAbove, NodesBelow};
 
 use basis::Basis;
 use below::{Due, Looked};
-use strips::{Columns, Strip};
+use strips::{Columns, Strip, UNTAPPED};
 
 // What the ring holds: at columns `from` to `to` - 1, the sums of the four lattice rows before next.
 #[derive(Drop)]
@@ -74,8 +74,7 @@ fn refill(columns: &Columns, kept: Kept, due: Due, cell: usize, ring: &mut [i64;
     }
 }
 
-// Whether a node of one row has a y sum above `most`, in columns `from` to `to` - 1. Not inlined: within its caller the loop lacks registers.
-#[inline(never)]
+// Whether a node of one row has a y sum above `most`, in columns `from` to `to` - 1.
 fn row_above(ring: &[i64; 256], cell: usize, b: Basis, from: usize, to: usize, most: i64) -> bool
     requires { (cell ≤ 512) × (weight_size b ≤ 805_306_368) × (to ≤ 64) × ((i : ℕ) → from ≤ i → i < to → RingInRange cell i ring.now) }
     ensures { SumsDecided b ring.now cell from to most result }
@@ -114,7 +113,7 @@ fn band_above(
 
 // Whether a node of a strip is above the stage, band by band; `most` is the greatest y sum whose height is not. A `while`, since a band ends where its row of
 // cells does, which no step tells before it is reached.
-pub fn strip_above(columns: &Columns, stage: i64, most: i64) -> bool
+fn bands_above(columns: &Columns, stage: i64, most: i64) -> bool
     requires { RowsInside columns.now.strip columns.now.strip.nodes.rows × (0 < columns.now.strip.nodes.step) × (0 < columns.now.strip.w) × Threshold stage columns.now.strip.grid.e most }
     ensures { Decided (NodeAbove columns.now.strip columns.now.lattice.now stage 0 columns.now.strip.nodes.rows 0 columns.now.strip.w) (NodesBelow columns.now.strip columns.now.lattice.now stage 0 columns.now.strip.nodes.rows 0 columns.now.strip.w) result }
 {
@@ -143,4 +142,21 @@ pub fn strip_above(columns: &Columns, stage: i64, most: i64) -> bool
         j = end;
     }
     false
+}
+
+// Whether a node of a strip is above the stage. Its cells and numerators are worked out once, for all its bands.
+pub fn strip_above(strip: Strip, lattice: &[i64], stage: i64, most: i64) -> bool
+    requires { Grounded strip.grid.cells.m strip.grid.cells.n strip.grid.e lattice.now × RowsInside strip strip.nodes.rows × (0 < strip.nodes.step) × (0 < strip.w) × Threshold stage strip.grid.e most }
+    ensures { Decided (NodeAbove strip lattice.now stage 0 strip.nodes.rows 0 strip.w) (NodesBelow strip lattice.now stage 0 strip.nodes.rows 0 strip.w) result }
+{
+    let mut cells = [0; 64];
+    let mut taps = [UNTAPPED; 64];
+    strips::tap(strip, &mut cells, &mut taps);
+    let columns = Columns {
+        strip,
+        lattice,
+        cells: &cells,
+        taps: &taps,
+    };
+    bands_above(&columns, stage, most)
 }

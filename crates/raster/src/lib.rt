@@ -13,7 +13,7 @@ ghost use Rattle.raster.specs.Samplable.{Samplable};
 use answers::Refusal;
 use grid::Grid;
 use nodes::Nodes;
-use strips::{Columns, Strip, UNTAPPED};
+use strips::Strip;
 
 // The raster of a lattice and of nodes that are known to be in range and inside.
 fn raster_within(grid: Grid, lattice: &[i64], nodes: Nodes, output: &mut [i64])
@@ -23,18 +23,9 @@ fn raster_within(grid: Grid, lattice: &[i64], nodes: Nodes, output: &mut [i64])
     if nodes.rows == 0 {
         return;
     }
-    let mut cells = [0; 64];
-    let mut taps = [UNTAPPED; 64];
     for column in (0..nodes.columns).step_by(64) {
         let strip = Strip::from_column(grid, nodes, column);
-        strips::tap(strip, &mut cells, &mut taps);
-        let columns = Columns {
-            strip,
-            lattice,
-            cells: &cells,
-            taps: &taps,
-        };
-        strips::whole_strip(&columns, output);
+        strips::whole_strip(strip, lattice, output);
     }
 }
 

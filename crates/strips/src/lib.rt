@@ -6,6 +6,6 @@ mod piece;
 mod ring;
 mod taps;
 
-pub use piece::Strip;
+pub use piece::{Piece, Strip, strip_from};
 pub use ring::{advance, node_sum, whole_strip};
 pub use taps::{Columns, UNTAPPED, tap};

@@ -3,11 +3,11 @@
 
 ghost use Rattle.std.specs.Prelude.{◌≡◌, ℕ, ◌+◌, ◌-◌, ◌*◌, ◌%◌, ◌≤◌, ◌<◌, pos, nat_abs, length, get_or};
 ghost use Rattle.algebra.specs.Table.{tabulate, over, laid};
-ghost use Rattle.basis.specs.Weighing.{weight_size};
+ghost use Rattle.basis.specs.Weighing.{Grounded, weight_size};
 ghost use Rattle.basis.specs.Sums.{back};
 ghost use Rattle.strips.specs.Strips.{column_sum, Ringed, Spared, RingInRange, node_sum, node_at, RowDue, RowDone, Room, height_at, Striped};
 
-use super::Columns;
+use super::{Columns, Strip, UNTAPPED, tap};
 use basis::Basis;
 
 // The ring with lattice row r summed too, at columns `from` to `to` - 1.
@@ -98,8 +98,8 @@ fn strip_row(
     last
 }
 
-// The nodes of a strip.
-pub fn whole_strip(columns: &Columns, output: &mut [i64])
+// Every raster row of a strip.
+fn strip_rows(columns: &Columns, output: &mut [i64])
     requires { Room columns.now.strip columns.now.strip.nodes.rows (length output.old) }
     ensures { Striped columns.now.strip.nodes.columns columns.now.strip.nodes.rows columns.now.strip.column (columns.now.strip.column + columns.now.strip.w) (height_at columns.now.strip columns.now.lattice.now) output.old output.new }
 {
@@ -108,4 +108,21 @@ pub fn whole_strip(columns: &Columns, output: &mut [i64])
     for j in 0..columns.strip.nodes.rows {
         next = strip_row(columns, j, next, &mut ring, output);
     }
+}
+
+// The nodes of a strip. Its cells and numerators are worked out once, for all its rows.
+pub fn whole_strip(strip: Strip, lattice: &[i64], output: &mut [i64])
+    requires { Grounded strip.grid.cells.m strip.grid.cells.n strip.grid.e lattice.now × Room strip strip.nodes.rows (length output.old) }
+    ensures { Striped strip.nodes.columns strip.nodes.rows strip.column (strip.column + strip.w) (height_at strip lattice.now) output.old output.new }
+{
+    let mut cells = [0; 64];
+    let mut taps = [UNTAPPED; 64];
+    tap(strip, &mut cells, &mut taps);
+    let columns = Columns {
+        strip,
+        lattice,
+        cells: &cells,
+        taps: &taps,
+    };
+    strip_rows(&columns, output);
 }

@@ -2,7 +2,7 @@
 use Rattle.strips.specs.Reading.{next_more}
 use Rattle.strips.specs.Stripes.{row_more}
 use Rattle.strips.proofs.Row.{row_room}
-use Rattle.strips.proofs.ring.whole_strip.Goals as goal
+use Rattle.strips.proofs.ring.strip_rows.Goals as goal
 
 pub loop-j-preserved : goal.loop-j-preserved
 loop-j-preserved c =

@@ -6,7 +6,7 @@ use Rattle.strips.specs.declared.taps.Columns.{Columns}
 use Rattle.bands.specs.Bands.{said_yes}
 use Rattle.bands.proofs.Rows.{rows_before}
 use Rattle.bands.proofs.Walk.{CellsOf, cells_of, rising, span, rows_stored, cells_before, cells_behind, node_among, threshold_of, passed_over, worked_out}
-use Rattle.bands.proofs.strip_above.Goals as goal
+use Rattle.bands.proofs.bands_above.Goals as goal
 
 -- the cells that are looked through are the strip's
 looked : (p : Columns) → CellsOf p.strip (take p.strip.w p.cells.now)

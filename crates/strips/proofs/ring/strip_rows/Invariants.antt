@@ -1,7 +1,7 @@
 -- The loop's invariant: the rows before j are done, and the ring has the lattice rows below next.
 use Prim.Native.Nat.{ℕ, ◌+◌, ◌≤◌}
 use Rattle.strips.specs.Strips.{Ringed, row_cell, height_at, Striped}
-use Rattle.strips.proofs.ring.whole_strip.Given as goal
+use Rattle.strips.proofs.ring.strip_rows.Given as goal
 
 abbrev pub invariant-loop-j : goal.invariant-loop-j
 invariant-loop-j l =

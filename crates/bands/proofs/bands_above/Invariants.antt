@@ -3,7 +3,7 @@ use Prim.Native.Nat.{◌-◌, ◌≤◌}
 use lib.ListN.{take}
 use Rattle.below.specs.Below.{first_cell, past_cells}
 use Rattle.bands.proofs.Walk.{Walked}
-use Rattle.bands.proofs.strip_above.Given as goal
+use Rattle.bands.proofs.bands_above.Given as goal
 
 abbrev pub invariant-loop-j : goal.invariant-loop-j
 invariant-loop-j l =
