@@ -1,11 +1,11 @@
 // Values in range, one by one and in a scan of many.
 #![tactic(auto)]
 
-ghost use Rattle.std.specs.Prelude.{◌≡◌, ℕ, ◌+◌, ◌^◌, ◌<◌, ◌≤◌, length, IfSome, nat_lt, unsigned_abs};
+ghost use Rattle.std.specs.Prelude.{◌≡◌, ℕ, ◌+◌, ◌^◌, ◌<◌, ◌≤◌, length, nat_lt, unsigned_abs};
 ghost use Rattle.rules.specs.Answers as rule;
 ghost use Rattle.rules.specs.Fit.{shifted};
 ghost use Rattle.rules.specs.Grid.{limit, in_range};
-ghost use Rattle.rules.specs.Laws.Checks.{AllInRange, NoneOut};
+ghost use Rattle.rules.specs.Laws.Checks.{AllInRange, NoneOut, SomeOut, FirstOut};
 ghost use Rattle.answers.specs.Cause.{ok_check};
 ghost use Rattle.range.specs.Found.{found_check};
 
@@ -43,6 +43,7 @@ fn passed(values: &[i64], n: usize) -> usize
     requires inside { n ≤ length values.now }
     ensures within { result ≤ n }
     ensures none_before { NoneOut result values.now }
+    ensures some_behind { result < n → SomeOut n values.now }
 {
     for block in 0..n.div_ceil(64) {
         let start = (64 * block).min(n - 64);
@@ -53,12 +54,18 @@ fn passed(values: &[i64], n: usize) -> usize
     n
 }
 
-// The first value out of range, value by value.
-fn first_among(values: &[i64]) -> Option<usize>
-    ensures inside { IfSome result (λ i. i < length values.now) }
-    ensures first { (f : ℕ → rule.Refusal) → rule.range_check (length values.now) values.now f ≡ found_check f result }
+// The first value out of range, where there is one and none before `start`: value by value. A `while`, since with no end to test for it is faster than
+// `position`.
+fn search(values: &[i64], start: usize) -> usize
+    requires none_before { NoneOut start values.now }
+    requires some_out { SomeOut (length values.now) values.now }
+    ensures { FirstOut result values.now }
 {
-    values.iter().position(|z| !in_range(*z))
+    let mut i = start;
+    while in_range(values[i]) {
+        i += 1;
+    }
+    i
 }
 
 // The first of n values that is out of range: block by block, and then value by value in the block that has it. Every scan of a stored lattice is
@@ -78,9 +85,11 @@ pub fn first_out(values: &[i64], n: usize) -> Option<usize>
             return Some(0);
         }
         start = passed(values, n);
+        if start == n {
+            return None;
+        }
     }
-    let i = first_among(&values[start..n])?;
-    Some(start + i)
+    Some(search(values, start))
 }
 
 // Whether values in range are still in range with b added to each. As in a block of a scan, none is tested by itself.
