@@ -41,5 +41,5 @@ pub fn put_value(output: &mut [u8], at: usize, z: i64)
     requires { at + 8 ≤ length output.old }
     ensures { output.new ≡ laid at (value_bytes z) output.old }
 {
-    output[at..at + 8].copy_from_slice(&z.to_le_bytes());
+    output[at..at + 8].copy_from_slice(&to_bits(z).to_le_bytes());
 }

@@ -8,19 +8,34 @@ ghost use Rattle.answers.specs.Cause.{check};
 
 use answers::Refusal;
 
+// The letters of the marks.
+pub const L: u8 = 0x4C;
+
+pub const P: u8 = 0x50;
+
+pub const H: u8 = 0x48;
+
+pub const R: u8 = 0x52;
+
+pub const E: u8 = 0x45;
+
+pub const T: u8 = 0x54;
+
+pub const Q: u8 = 0x51;
+
 // The marks of a lattice file's head, rows and end.
-pub const LH: [u8; 2] = *b"LH";
+pub const LH: [u8; 2] = [L, H];
 
-pub const LR: [u8; 2] = *b"LR";
+pub const LR: [u8; 2] = [L, R];
 
-pub const LE: [u8; 2] = *b"LE";
+pub const LE: [u8; 2] = [L, E];
 
 // The marks of a point file's head, and of its points without and with a confidence.
-pub const PH: [u8; 2] = *b"PH";
+pub const PH: [u8; 2] = [P, H];
 
-pub const PT: [u8; 2] = *b"PT";
+pub const PT: [u8; 2] = [P, T];
 
-pub const PQ: [u8; 2] = *b"PQ";
+pub const PQ: [u8; 2] = [P, Q];
 
 // A mark, written and compared.
 pub fn put_mark(output: &mut [u8], at: usize, mark: [u8; 2])
