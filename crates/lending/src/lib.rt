@@ -31,6 +31,16 @@ pub fn room(
     Ok(())
 }
 
+// The values at the start of to, one by one: the library's own copy asks the host's C library for `memmove`.
+fn copy(values: &[i64], to: &mut [i64])
+    requires { length values.now ≤ length to.old }
+    ensures { to.new ≡ over values.now to.old }
+{
+    for (i, value) in values.iter().enumerate() {
+        to[i] = *value;
+    }
+}
+
 // The last running lattice with the base added, and the last residuals, from their areas to the caller's slices.
 // Counts, and no shape or points, since those types would ask more of its callers.
 pub fn deliver(
@@ -52,5 +62,5 @@ pub fn deliver(
     base::shift(&whole[from..to], base, lattice);
     let residuals = 3 * most;
     let end = residuals + p;
-    residual[..p].copy_from_slice(&whole[residuals..end]);
+    copy(&whole[residuals..end], residual);
 }

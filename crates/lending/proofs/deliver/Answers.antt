@@ -1,6 +1,6 @@
 -- A part that is lent is an area, and all of it is shifted or copied.
-use Rattle.std.proofs.Common.{sym, ap, ap₂, ◌∙◌, ◌++◌, ◌+◌, ◌*◌, ◌%◌, ◌≤◌, length, drop, arith}
-use Rattle.algebra.specs.Table.{over, area, area_part, length_area, over_length}
+use Rattle.std.proofs.Common.{ap, ap₂, ◌∙◌, ◌+◌, ◌*◌, ◌%◌, ◌≤◌, length, arith}
+use Rattle.algebra.specs.Table.{over, area, area_part, length_area}
 use Rattle.machine.specs.Tests.{plain}
 use Rattle.rules.specs.Fit.{shifted}
 use Rattle.scratch.specs.Scratch.{area_within, part_ranged}
@@ -24,6 +24,4 @@ returns-clause-lattice_after c =
 pub returns-clause-residual_after : goal.returns-clause-residual_after
 returns-clause-residual_after c =
     let a = c.args in
-    let n = 3 * a.most in
-    ap (λ r. r ++ drop a.p a.residual.now) (c.copy_from_slice.ensures.after ∙ area_part n a.p a.whole.now)
-    ∙ sym (over_length a.p (area n a.p a.whole.now) a.residual.now (length_area n a.p a.whole.now c.requires.rooms.1))
+    c.copy.ensures ∙ ap (λ r. over r a.residual.now) (area_part (3 * a.most) a.p a.whole.now)
