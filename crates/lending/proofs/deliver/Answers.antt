@@ -1,6 +1,6 @@
 -- A part that is lent is an area, and all of it is shifted or copied.
 use Rattle.std.proofs.Common.{ap, ap₂, ◌∙◌, ◌+◌, ◌*◌, ◌%◌, ◌≤◌, length, arith}
-use Rattle.algebra.specs.Table.{over, area, area_part, length_area}
+use Rattle.algebra.specs.Table.{over, area_part, length_area}
 use Rattle.machine.specs.Tests.{plain}
 use Rattle.rules.specs.Fit.{shifted}
 use Rattle.scratch.specs.Scratch.{area_within, part_ranged}
